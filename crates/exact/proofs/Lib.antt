@@ -1,0 +1,4 @@
+pub mod Sums
+pub mod Blocks
+pub mod Rounding
+pub mod Computed

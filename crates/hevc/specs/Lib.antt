@@ -1,0 +1,5 @@
+pub mod Cosine
+pub mod Scaling
+pub mod Passes
+pub mod Turning
+pub mod Hevc

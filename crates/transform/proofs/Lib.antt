@@ -1,0 +1,3 @@
+pub mod Withins
+pub mod Sides
+pub mod Serving
