@@ -20,10 +20,6 @@ product n P Q i j = sumZ n (λ k. P i k *ℤ Q k j)
 abbrev pub transposed : Matrix → Matrix
 transposed P i j = P j i
 
--- no entry is above m in magnitude
-abbrev pub Small : ℕ → Matrix → Type 0
-Small m P = (i j : ℕ) → natAbs (P i j) ≤ m
-
 -- no number of the list is above m in magnitude
 abbrev pub Bounded : ℕ → List ℤ → Type 0
 Bounded m xs = (k : ℕ) → natAbs (getD xs k (pos 0)) ≤ m

@@ -19,7 +19,8 @@ use Rattle.exact.proofs.Sums.{product-abs}
 use Rattle.exact.proofs.Blocks.{length-block, block-bounded}
 use Rattle.exact.proofs.Rounding.{clip-abs, round-near, nearest-within}
 use Rattle.transform.specs.Meaning.{Rules, Sound, Block, sided}
-use Rattle.transform.proofs.Sides.{side-cases, side-range, residuals-bounded, bounded-shorts}
+use Rattle.transform.proofs.Ranges.{residuals-bounded, bounded-shorts}
+use Rattle.transform.proofs.Sides.{side-cases, side-range}
 use Rattle.hevc.specs.Scaling.{scale}
 use Rattle.hevc.specs.Passes.{coefficients, columns, rows, rebuiltBy, spectrum, levelOf, chosenBy}
 use Rattle.hevc.specs.Hevc.{rulesOf}

@@ -1,3 +1,4 @@
+pub mod Limits
 pub mod Cosine
 pub mod Scaling
 pub mod Passes

@@ -9,6 +9,7 @@ ghost use Rattle.exact.specs.Sums.{product, Bounded};
 ghost use Rattle.exact.specs.Blocks.{at, block, placed, Filled};
 ghost use Rattle.transform.specs.Meaning.{sided};
 ghost use Rattle.hevc.specs.Cosine.{first, cosine32, cosine, turnedIf};
+ghost use Rattle.hevc.specs.Limits.{inputLimit, termLimit};
 use crate::kernel::Kernel;
 use transform::is_side;
 
@@ -92,9 +93,9 @@ fn entry_of(side: usize, turned: bool, i: usize, j: usize) -> i32
 fn term(side: usize, turned: bool, i: usize, j: usize, x: i32) -> i32
     requires side { ⌜ sided side ≡ true ⌝ }
     requires place { ⌜ (i < side) × (j < side) ⌝ }
-    requires small { ⌜ natAbs x ≤ 734400 ⌝ }
+    requires small { ⌜ natAbs x ≤ inputLimit ⌝ }
     ensures value { λ r. ⌜ r ≡ turnedIf turned (cosine side) i j *ℤ x ⌝ }
-    ensures small { λ r. ⌜ natAbs r ≤ 66096000 ⌝ }
+    ensures small { λ r. ⌜ natAbs r ≤ termLimit ⌝ }
 {
     entry_of(side, turned, i, j) * x
 }
@@ -104,7 +105,7 @@ fn dot(side: usize, turned: bool, given: &[i32], i: usize, j: usize) -> i32
     requires side { ⌜ sided side ≡ true ⌝ }
     requires place { ⌜ (i < side) × (j < side) ⌝ }
     requires len { ⌜ length (now given) ≡ side * side ⌝ }
-    requires small { ⌜ Bounded 734400 (now given) ⌝ }
+    requires small { ⌜ Bounded inputLimit (now given) ⌝ }
     ensures { λ r. ⌜ r ≡ product side (turnedIf turned (cosine side)) (at side (now (given .entry))) i j ⌝ }
 {
     let mut sum = 0;
@@ -119,7 +120,7 @@ fn multiply_row(side: usize, turned: bool, given: &[i32], i: usize, out: &mut [i
     requires side { ⌜ sided side ≡ true ⌝ }
     requires place { ⌜ i < side ⌝ }
     requires len { ⌜ (length (now given) ≡ side * side) × (length (now out) ≡ side * side) ⌝ }
-    requires small { ⌜ Bounded 734400 (now given) ⌝ }
+    requires small { ⌜ Bounded inputLimit (now given) ⌝ }
     requires above { ⌜ Filled (i * side) (placed side (product side (turnedIf turned (cosine side)) (at side (now given)))) (now out) ⌝ }
     ensures { λ _. ⌜ Filled ((i + 1) * side) (placed side (product side (turnedIf turned (cosine side)) (at side (now (given .entry))))) (now (out .exit)) ⌝ }
 {
@@ -132,7 +133,7 @@ fn multiply_row(side: usize, turned: bool, given: &[i32], i: usize, out: &mut [i
 fn multiply_block(side: usize, turned: bool, given: &[i32], out: &mut [i32])
     requires side { ⌜ sided side ≡ true ⌝ }
     requires len { ⌜ (length (now given) ≡ side * side) × (length (now out) ≡ side * side) ⌝ }
-    requires small { ⌜ Bounded 734400 (now given) ⌝ }
+    requires small { ⌜ Bounded inputLimit (now given) ⌝ }
     ensures { λ _. ⌜ now (out .exit) ≡ block side (product side (turnedIf turned (cosine side)) (at side (now (given .entry)))) ⌝ }
 {
     for i in 0..side {

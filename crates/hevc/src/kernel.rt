@@ -7,6 +7,7 @@ ghost use lib.ListN.{length};
 ghost use Rattle.exact.specs.Sums.{Matrix, product, transposed, Bounded};
 ghost use Rattle.exact.specs.Blocks.{at, block};
 ghost use Rattle.transform.specs.Meaning.{sided};
+ghost use Rattle.hevc.specs.Limits.{entryLimit, inputLimit};
 
 // Nothing here scales, clips or rounds: that is written once, above every kernel. Entries are at most 90 in magnitude, so
 // that products of legal blocks fit 32 bits at every side.
@@ -15,7 +16,7 @@ pub trait Kernel {
 
     ghost matrix: { Self → ℕ → Matrix };
 
-    law entries: { (k : Self) (side i j : ℕ) → natAbs (matrix k side i j) ≤ 90 };
+    law entries: { (k : Self) (side i j : ℕ) → natAbs (matrix k side i j) ≤ entryLimit };
 
     // Whether the kernel has this side.
     fn serves(&self, side: usize) -> bool
@@ -32,6 +33,6 @@ pub trait Kernel {
     fn multiply(&self, side: usize, given: &[i32], out: &mut [i32])
         requires side { ⌜ sided side ≡ true ⌝ ∗ ⌜ served (now self) side ≡ true ⌝ }
         requires len { ⌜ (length (now given) ≡ side * side) × (length (now out) ≡ side * side) ⌝ }
-        requires small { ⌜ Bounded 734400 (now given) ⌝ }
+        requires small { ⌜ Bounded inputLimit (now given) ⌝ }
         ensures { λ _. ⌜ now (out .exit) ≡ block side (product side (matrix (now (self .entry)) side) (at side (now (given .entry)))) ⌝ };
 }

@@ -9,6 +9,7 @@ ghost use Rattle.exact.specs.Blocks.{block, placed, Filled};
 ghost use Rattle.exact.specs.Rounding.{clip16 as clipped, floorShift, nearest as nearestTo};
 ghost use Rattle.transform.specs.Meaning.{sided};
 ghost use Rattle.hevc.specs.Turning.{turnedBy};
+ghost use Rattle.hevc.specs.Limits.{sumLimit};
 use exact::clip16;
 use exact::nearest;
 use exact::round_shift;
@@ -18,7 +19,7 @@ pub(crate) trait Rounding {
     ghost rounded: { Self → ℤ → ℤ };
 
     fn round(&self, sum: i32) -> i32
-        requires { ⌜ natAbs sum ≤ 2115072000 ⌝ }
+        requires { ⌜ natAbs sum ≤ sumLimit ⌝ }
         ensures { λ r. ⌜ r ≡ rounded (now (self .entry)) sum ⌝ };
 }
 
@@ -78,7 +79,7 @@ fn turn_row<R: Rounding>(rounding: &R, side: usize, sums: &[i32], i: usize, out:
     requires side { ⌜ sided side ≡ true ⌝ }
     requires place { ⌜ i < side ⌝ }
     requires len { ⌜ (length (now sums) ≡ side * side) × (length (now out) ≡ side * side) ⌝ }
-    requires small { ⌜ Bounded 2115072000 (now sums) ⌝ }
+    requires small { ⌜ Bounded sumLimit (now sums) ⌝ }
     requires above { ⌜ Filled (i * side) (placed side (turnedBy (rounded (now rounding)) side (now sums))) (now out) ⌝ }
     ensures { λ _. ⌜ Filled ((i + 1) * side) (placed side (turnedBy (rounded (now (rounding .entry))) side (now (sums .entry)))) (now (out .exit)) ⌝ }
 {
@@ -91,7 +92,7 @@ fn turn_row<R: Rounding>(rounding: &R, side: usize, sums: &[i32], i: usize, out:
 pub(crate) fn turn<R: Rounding>(rounding: &R, side: usize, sums: &[i32], out: &mut [i32])
     requires side { ⌜ sided side ≡ true ⌝ }
     requires len { ⌜ (length (now sums) ≡ side * side) × (length (now out) ≡ side * side) ⌝ }
-    requires small { ⌜ Bounded 2115072000 (now sums) ⌝ }
+    requires small { ⌜ Bounded sumLimit (now sums) ⌝ }
     ensures { λ _. ⌜ now (out .exit) ≡ block side (turnedBy (rounded (now (rounding .entry))) side (now (sums .entry))) ⌝ }
 {
     for i in 0..side {

@@ -1,3 +1,3 @@
-pub mod Withins
 pub mod Sides
+pub mod Ranges
 pub mod Serving

@@ -10,6 +10,8 @@ ghost use Rattle.transform.specs.Outcome.{choosing, rebuilding, answered, shap
 
 mod checks;
 mod fault;
+#[cfg(test)]
+mod tests;
 
 use checks::are_residuals;
 use checks::are_shorts;

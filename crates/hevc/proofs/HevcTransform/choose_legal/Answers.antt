@@ -1,7 +1,8 @@
 use mathlib.Core.Path.{_≡_, sym, ap}
 use Prim.Native.Nat.{_*_}
 use native.Mathlib.Omega.{arith}
-use Rattle.transform.proofs.Sides.{shape-parts, side-cases, residuals-bounded}
+use Rattle.transform.proofs.Sides.{shape-parts, side-cases}
+use Rattle.transform.proofs.Ranges.{residuals-bounded}
 use Rattle.hevc.proofs.Usable.{usable-parts}
 use Rattle.hevc.proofs.HevcTransform.choose_legal.Needs as need
 

@@ -1,5 +1,6 @@
 use native.Mathlib.Omega.{arith}
 use Rattle.transform.proofs.Sides.{side-range}
+use Rattle.hevc.specs.Limits.{inputLimit, sumLimit}
 use Rattle.hevc.proofs.TwoPasses.{chosen-is, sums-bounded, turned-bounded}
 use Rattle.hevc.proofs.passes.choose_in.Needs as need
 
@@ -9,28 +10,28 @@ turn-requires g c κs =
     record {
       side = c .pre .side .0;
       len = omega arith;
-      small = sums-bounded (c .args .side) 255 2115072000 _ _ _ (s .1) (omega arith) (g .K·Kernel·met .entries (c .args .kernel .now) (c .args .side)) (c .pre .range) (c .multiply .ensures);
+      small = sums-bounded (c .args .side) 255 sumLimit _ _ _ (s .1) (omega arith) (g .K·Kernel·met .entries (c .args .kernel .now) (c .args .side)) (c .pre .range) (c .multiply .ensures);
     }
 
 pub multiply-requires-2 : need.multiply-requires-2
 multiply-requires-2 g c κs =
     let s = side-range (c .args .side) (c .pre .side .0) in
-    let b = sums-bounded (c .args .side) 255 734400 _ _ _ (s .1) (omega arith) (g .K·Kernel·met .entries (c .args .kernel .now) (c .args .side)) (c .pre .range) (c .multiply .ensures) in
+    let b = sums-bounded (c .args .side) 255 inputLimit _ _ _ (s .1) (omega arith) (g .K·Kernel·met .entries (c .args .kernel .now) (c .args .side)) (c .pre .range) (c .multiply .ensures) in
     record {
       side = c .pre .side;
       len = omega arith;
-      small = turned-bounded (c .args .side) 734400 _ _ b (c .turn .ensures);
+      small = turned-bounded (c .args .side) inputLimit _ _ b (c .turn .ensures);
     }
 
 pub turn-requires-2 : need.turn-requires-2
 turn-requires-2 g c κs =
     let s = side-range (c .args .side) (c .pre .side .0) in
-    let b = sums-bounded (c .args .side) 255 734400 _ _ _ (s .1) (omega arith) (g .K·Kernel·met .entries (c .args .kernel .now) (c .args .side)) (c .pre .range) (c .multiply .ensures) in
-    let t = turned-bounded (c .args .side) 734400 _ _ b (c .turn .ensures) in
+    let b = sums-bounded (c .args .side) 255 inputLimit _ _ _ (s .1) (omega arith) (g .K·Kernel·met .entries (c .args .kernel .now) (c .args .side)) (c .pre .range) (c .multiply .ensures) in
+    let t = turned-bounded (c .args .side) inputLimit _ _ b (c .turn .ensures) in
     record {
       side = c .pre .side .0;
       len = omega arith;
-      small = sums-bounded (c .args .side) 734400 2115072000 _ _ _ (s .1) (omega arith) (g .K·Kernel·met .entries (c .args .kernel .now) (c .args .side)) t (c .multiply-2 .ensures);
+      small = sums-bounded (c .args .side) inputLimit sumLimit _ _ _ (s .1) (omega arith) (g .K·Kernel·met .entries (c .args .kernel .now) (c .args .side)) t (c .multiply-2 .ensures);
     }
 
 pub returns : need.returns

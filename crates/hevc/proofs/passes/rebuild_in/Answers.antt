@@ -1,5 +1,6 @@
 use native.Mathlib.Omega.{arith}
 use Rattle.transform.proofs.Sides.{side-range}
+use Rattle.hevc.specs.Limits.{sumLimit}
 use Rattle.hevc.proofs.TwoPasses.{rebuilt-is, sums-bounded, clipped-bounded, coefficients-bounded}
 use Rattle.hevc.proofs.passes.rebuild_in.Needs as need
 
@@ -13,7 +14,7 @@ turn-requires g c κs =
     record {
       side = c .pre .side .0;
       len = omega arith;
-      small = sums-bounded (c .args .side) 32768 2115072000 _ (c .scale-levels .last .out) _ (s .1) (omega arith) (λ i j. g .K·Kernel·met .entries (c .args .kernel .now) (c .args .side) j i) b (c .multiply-transposed .ensures);
+      small = sums-bounded (c .args .side) 32768 sumLimit _ (c .scale-levels .last .out) _ (s .1) (omega arith) (λ i j. g .K·Kernel·met .entries (c .args .kernel .now) (c .args .side) j i) b (c .multiply-transposed .ensures);
     }
 
 pub multiply-transposed-requires-2 : need.multiply-transposed-requires-2
@@ -26,7 +27,7 @@ turn-requires-2 g c κs =
     record {
       side = c .pre .side .0;
       len = omega arith;
-      small = sums-bounded (c .args .side) 32768 2115072000 _ (c .turn .last .out) _ (s .1) (omega arith) (λ i j. g .K·Kernel·met .entries (c .args .kernel .now) (c .args .side) j i) b (c .multiply-transposed-2 .ensures);
+      small = sums-bounded (c .args .side) 32768 sumLimit _ (c .turn .last .out) _ (s .1) (omega arith) (λ i j. g .K·Kernel·met .entries (c .args .kernel .now) (c .args .side) j i) b (c .multiply-transposed-2 .ensures);
     }
 
 pub returns : need.returns

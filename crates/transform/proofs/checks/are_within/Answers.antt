@@ -7,7 +7,7 @@ use borrow.Author.Needs.{needs}
 use Rattle.std.proofs.shelf.Signed.{toZ-ofZ}
 use Rattle.std.proofs.shelf.Lists.{drop-all}
 use Rattle.transform.specs.Meaning.{within}
-use Rattle.transform.proofs.Withins.{passes, too-low, too-high}
+use Rattle.transform.proofs.Ranges.{passes, too-low, too-high}
 use Rattle.transform.proofs.checks.are_within.Needs as need
 use Rattle.transform.proofs.checks.are_within.Needs.{then-x-low·by·then-x-low, then-x-low·by·else-x-low·then-x-high}
 

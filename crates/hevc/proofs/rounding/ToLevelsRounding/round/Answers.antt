@@ -7,17 +7,18 @@ use mir.Syntax.{w32, w64}
 use borrow.Author.Differences.{ints}
 use Rattle.exact.specs.Rounding.{nearest}
 use Rattle.exact.proofs.Rounding.{nearest-abs}
+use Rattle.hevc.specs.Limits.{sumLimit}
 use Rattle.hevc.proofs.rounding.ToLevelsRounding.round.Needs as need
 
-widened : (y : ℤ) → natAbs y ≤ 2115072000 → toZ w64 (ofZ w64 (toZ w32 (ofZ w32 y))) ≡ y
+widened : (y : ℤ) → natAbs y ≤ sumLimit → toZ w64 (ofZ w64 (toZ w32 (ofZ w32 y))) ≡ y
 widened y h = omega (arith, ints)
 
-module _ (y r : ℤ) (d : ℕ) (h : natAbs y ≤ 2115072000) (p : 0 < d) (e : r ≡ nearest (toZ w64 (ofZ w64 (toZ w32 (ofZ w32 y)))) d) where
+module _ (y r : ℤ) (d : ℕ) (h : natAbs y ≤ sumLimit) (p : 0 < d) (e : r ≡ nearest (toZ w64 (ofZ w64 (toZ w32 (ofZ w32 y)))) d) where
   is : r ≡ nearest y d
   is = e ∙ ap (λ z. nearest z d) (widened y h)
 
-  small : natAbs r ≤ 2115072000
-  small = subst (λ z. natAbs z ≤ 2115072000) (sym is) (omega (arith, nearest-abs y d p))
+  small : natAbs r ≤ sumLimit
+  small = subst (λ z. natAbs z ≤ sumLimit) (sym is) (omega (arith, nearest-abs y d p))
 
   fits : SFits w32 (toZ w64 (ofZ w64 r))
   fits = omega (arith, ints, small)
