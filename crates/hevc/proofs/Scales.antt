@@ -26,9 +26,9 @@ pub scale-coded : (q : ℕ) → q ≤ 51 → coded q ≡ scale q
 unfolding scale
 scale-coded q h = eqb→eq (coded q) (scale q) (upto (λ q. eqb (coded q) (scale q)) 52 tt q (omega arith))
 
-pub scale-most : (q : ℕ) → q ≤ 51 → scale q ≤ 18432
+pub scale-most : (q : ℕ) → q ≤ 51 → scale q ≤ 14592
 unfolding scale
-scale-most q h = leb→le (scale q) 18432 (upto (λ q. leb (scale q) 18432) 52 tt q (omega arith))
+scale-most q h = leb→le (scale q) 14592 (upto (λ q. leb (scale q) 14592) 52 tt q (omega arith))
 
 pub scale-least : (q : ℕ) → q ≤ 51 → 40 ≤ scale q
 unfolding scale
@@ -38,9 +38,9 @@ sixteen : (x : ℤ) (s : ℕ) → (x *ℤ pos s) *ℤ pos 16 ≡ x *ℤ pos (16 
 sixteen x s = mul-assoc x (pos s) (pos 16) ∙ ap (λ n. x *ℤ pos n) (mul-comm s 16)
 
 -- a level x and a scaling number s
-module _ (x : ℤ) (s : ℕ) (h : natAbs x ≤ 32768) (l : s ≤ 18432) where
-  small : natAbs (x *ℤ pos s) ≤ 603979776
-  small = abs-product x (pos s) 32768 18432 h l
+module _ (x : ℤ) (s : ℕ) (h : natAbs x ≤ 32768) (l : s ≤ 14592) where
+  small : natAbs (x *ℤ pos s) ≤ 478150656
+  small = abs-product x (pos s) 32768 14592 h l
 
   operands : toZ w32 (ofZ w32 x) *ℤ toZ w32 s ≡ x *ℤ pos s
   operands = ap₂ _*ℤ_ (toZ-ofZ w32 x (omega (arith, ints))) (toZ-pos w32 s (omega arith))

@@ -19,7 +19,7 @@ const SCALES: [u32; 6] = [40, 45, 51, 57, 64, 72];
 pub(crate) fn scale_of(step: u32) -> u32
     requires { ⌜ step ≤ 51 ⌝ }
     ensures value { λ r. ⌜ r ≡ scale step ⌝ }
-    ensures range { λ r. ⌜ (40 ≤ r) × (r ≤ 18432) ⌝ }
+    ensures range { λ r. ⌜ (40 ≤ r) × (r ≤ 14592) ⌝ }
 {
     SCALES[(step % 6) as usize] * (1 << (step / 6))
 }
@@ -41,7 +41,7 @@ fn log_of(side: usize) -> u32
 // A level scaled. The factor 16 of the standard's product and of its shift cancel, so that the product fits 32 bits.
 fn coefficient_of(log: u32, scale: u32, level: i32) -> i32
     requires side { ⌜ (2 ≤ log) × (log ≤ 5) ⌝ }
-    requires scale { ⌜ scale ≤ 18432 ⌝ }
+    requires scale { ⌜ scale ≤ 14592 ⌝ }
     requires level { ⌜ natAbs level ≤ 32768 ⌝ }
     ensures { λ r. ⌜ r ≡ coefficient log scale level ⌝ }
 {
