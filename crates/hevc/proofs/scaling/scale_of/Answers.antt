@@ -6,4 +6,4 @@ use Rattle.hevc.proofs.scaling.scale_of.Needs as need
 pub returns : need.returns
 returns c =
     let e = scale-coded (c .args .step) (c .pre) in
-    record { value = e; range = subst (λ n. (40 ≤ n) × (n ≤ 18432)) (sym e) (scale-least (c .args .step) (c .pre), scale-most (c .args .step) (c .pre)) }
+    record { value = e; range = subst (λ n. (40 ≤ n) × (n ≤ 14592)) (sym e) (scale-least (c .args .step) (c .pre), scale-most (c .args .step) (c .pre)) }
