@@ -1,4 +1,6 @@
 // Exact arithmetic that every transform rests on: clipping, rounding and the nearest quotient.
+#![tactic(auto)]
+
 ghost use Rattle.std.specs.Prelude.{◌≡◌, ℕ, ◌+◌, ◌-◌, ◌*◌, ◌^◌, ◌<◌, ◌≤◌, ℤ, pos, negsuc, ◌-ℤ◌, ◌*ℤ◌, ◌≤ℤ◌, unsigned_abs};
 ghost use Rattle.exact.specs.Rounding.{clip16, floor_shift, round_shift, halves_down, nearest, Closest};
 

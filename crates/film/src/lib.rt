@@ -1,4 +1,6 @@
 // The text between recorder and player: settings, lines, and how they are read and written.
+#![tactic(auto)]
+
 mod cutting;
 mod fault;
 mod leaf;

@@ -1,4 +1,6 @@
 // The HEVC transform: levels rebuilt and chosen over any one-dimensional kernel.
+#![tactic(auto)]
+
 ghost use Rattle.std.specs.Prelude.{◌≡◌, ◌∷◌, length, replicate, pos, negsuc, slice_index_or};
 ghost use Rattle.std.specs.Result.{result_unwrap_or};
 ghost use Rattle.transform.specs.Meaning.{only_at};

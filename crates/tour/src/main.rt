@@ -1,5 +1,7 @@
 // Shows one residual block through the HEVC transform: its levels at a fine and at a coarse step, what they rebuild to, and
 // what is refused.
+#![tactic(auto)]
+
 mod refusals;
 mod steps;
 

@@ -1,4 +1,6 @@
 // What a transform is: residual blocks turned into levels, and levels rebuilt to residual blocks.
+#![tactic(auto)]
+
 ghost use Rattle.std.specs.Prelude.{◌≡◌, ℕ, true, length, is_some};
 ghost use Rattle.std.specs.Option.{unwrap_or as some_or};
 ghost use Rattle.std.specs.Result.{result_unwrap_or};

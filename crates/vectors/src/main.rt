@@ -1,4 +1,6 @@
 // Reads cases from standard input, rebuilds each from its levels, and prints for each whether that gave what the case expects.
+#![tactic(auto)]
+
 mod case;
 mod judge;
 mod reading;

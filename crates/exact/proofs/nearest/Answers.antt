@@ -58,10 +58,10 @@ overflow-cast-magnitude c = fits c.args.y c.args.d _ _ c.ranges.y c.unsigned-abs
 
 pub returns-then-y-lt0 : goal.returns-then-y-lt0
 returns-then-y-lt0 c =
-    let e = down_is c.args.y c.args.d _ _ c.ranges.y c.unsigned-abs.ensures.value c.halves-down-magnitude.ensures c.requires.divisor.0 c.requires.dividend c.if-y-lt0.true in
+    let e = down_is c.args.y c.args.d _ _ c.ranges.y c.unsigned_abs.ensures.value c.halves_down-magnitude.ensures c.requires.divisor.0 c.requires.dividend c.if-y-lt0.true in
     record { value = e; closest = is_closest c.args.y c.args.d c.requires.divisor.0 _ e; only = is_only c.args.y c.args.d c.requires.divisor.0 _ e }
 
 pub returns-else-y-lt0 : goal.returns-else-y-lt0
 returns-else-y-lt0 c =
-    let e = up_is c.args.y c.args.d _ _ c.ranges.y c.unsigned-abs.ensures.value c.halves-down-magnitude.ensures c.requires.divisor.0 c.requires.dividend c.if-y-lt0.false in
+    let e = up_is c.args.y c.args.d _ _ c.ranges.y c.unsigned_abs.ensures.value c.halves_down-magnitude.ensures c.requires.divisor.0 c.requires.dividend c.if-y-lt0.false in
     record { value = e; closest = is_closest c.args.y c.args.d c.requires.divisor.0 _ e; only = is_only c.args.y c.args.d c.requires.divisor.0 _ e }

@@ -40,6 +40,6 @@ overflow-add-v c = sum_fits c.args.v c.args.k c.ranges.v c.requires.power.0 c.re
 
 pub returns : goal.returns
 returns c = record {
-  value = shifted_is c.args.v c.args.k c.ranges.v c.requires.power.0 c.requires.power.1 c.requires.sum _ c.shift-down.ensures (record { sfits = c.shift-down.type-inv });
-  half = shifted_near c.args.v c.args.k c.ranges.v c.requires.power.0 c.requires.power.1 c.requires.sum _ c.shift-down.ensures (record { sfits = c.shift-down.type-inv });
+  value = shifted_is c.args.v c.args.k c.ranges.v c.requires.power.0 c.requires.power.1 c.requires.sum _ c.shift_down.ensures (record { sfits = c.shift_down.type_inv });
+  half = shifted_near c.args.v c.args.k c.ranges.v c.requires.power.0 c.requires.power.1 c.requires.sum _ c.shift_down.ensures (record { sfits = c.shift_down.type_inv });
 }
