@@ -35,8 +35,8 @@ module _ (v : ℤ) (k : ℕ) (f : SFits w32 v) (low : 1 ≤ k) (high : k ≤ 12)
     shifted_near : nat_abs (pos (2 ^ k) *ℤ to_z w32 (of_z w32 r) -ℤ v) ≤ 2 ^ (k - 1)
     shifted_near = subst (λ z. nat_abs (pos (2 ^ k) *ℤ z -ℤ v) ≤ 2 ^ (k - 1)) (sym shifted_is) (round_near v k low)
 
-pub overflow-add-v : goal.overflow-add-v
-overflow-add-v c = sum_fits c.args.v c.args.k c.ranges.v c.requires.power.0 c.requires.power.1 c.requires.sum
+pub overflow_add-v : goal.overflow_add-v
+overflow_add-v c = sum_fits c.args.v c.args.k c.ranges.v c.requires.power.0 c.requires.power.1 c.requires.sum
 
 pub returns : goal.returns
 returns c = record {
