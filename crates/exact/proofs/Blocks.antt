@@ -1,12 +1,12 @@
 -- Square blocks as lists: reading an entry, and writing one place after another. Assumes nothing.
-use Rattle.std.proofs.Common.{◌≡◌, ℕ, ◌+◌, ◌*◌, ◌/◌, ◌%◌, ◌<◌, ◌≤◌, List, length, get_or, set, ℤ, pos, nat_abs, sym, refl, ap, ◌∙◌, subst, ap₂, inl, inr, ⊎_elim, add-mul, one-mul, arith}
+use Rattle.std.proofs.Common.{◌≡◌, ℕ, ◌+◌, ◌*◌, ◌/◌, ◌%◌, ◌<◌, ◌≤◌, List, length, get_or, set, ℤ, pos, nat_abs, sym, refl, ap, ◌∙◌, subst, ap₂, ⊎_elim, add-mul, arith}
 use Rattle.std.proofs.lemmas.Nat.{mul-le, mul-add-lt, div-mul-add, mod-mul-add, div_below, mod_below, div-add-mod'}
 use Rattle.std.proofs.lemmas.List.FromFn.{get_or-map-range_with_len, length-map-range_with_len, fill_by_all}
 use Rattle.std.proofs.lemmas.List.Edits.{fill_by_more}
 use Rattle.std.proofs.lemmas.List.{get_or_past}
 use Rattle.std.proofs.lemmas.Bool.{cases_lt}
 use Rattle.exact.specs.Sums.{Matrix, Bounded}
-use Rattle.exact.specs.Blocks.{tabulate, at, placed, block, Filled}
+use Rattle.exact.specs.Blocks.{at, placed, block, Filled}
 
 -- the place of row i, column j lies in the block
 pub place_below : (n i j : ℕ) → i < n → j < n → i * n + j < n * n

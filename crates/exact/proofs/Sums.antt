@@ -1,5 +1,5 @@
 -- Laws of sums of integers and of products of matrices. Assumes nothing.
-use Rattle.std.proofs.Common.{◌≡◌, ℕ, zero, suc, ◌+◌, ◌*◌, ◌<◌, ◌≤◌, ℤ, pos, negsuc, ◌+ℤ◌, ◌*ℤ◌, neg_ℤ, nat_abs, sym, refl, ap, ◌∙◌, subst, ap₂, suc-mul, add-one, arith}
+use Rattle.std.proofs.Common.{◌≡◌, ℕ, zero, suc, ◌+◌, ◌*◌, ◌<◌, ◌≤◌, ℤ, pos, negsuc, ◌+ℤ◌, ◌*ℤ◌, neg_ℤ, nat_abs, refl, ap, ap₂, suc-mul, add-one, arith}
 use lib.IntN.{*ℤ_comm}
 use borrow.Author.Differences.{up, down, ints, same_in, product_is}
 use Rattle.std.proofs.lemmas.Nat.{mul-le}

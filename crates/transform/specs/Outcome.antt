@@ -1,5 +1,5 @@
 -- The one outcome of each call: a refusal, judged in the order 31, 32, 33, 34, or what is written. Assumes nothing.
-use Rattle.std.specs.Prelude.{ℕ, ◌*◌, Bool, true, false, cond, ◌&&◌, List, length, ℤ, Some, None, Ok, Err, Option, Result, ◌==◌}
+use Rattle.std.specs.Prelude.{ℕ, ◌*◌, Bool, cond, ◌&&◌, List, length, ℤ, Some, None, Ok, Err, Option, Result, ◌==◌}
 use Rattle.transform.specs.declared.fault.Fault.{Fault}
 use Rattle.transform.specs.declared.fault.Fault.TheVariants.{BadShape, NotUsable, OutOfRange, NothingRebuilt}
 use Rattle.transform.specs.Meaning.{Rules, sided, residuals, shorts}

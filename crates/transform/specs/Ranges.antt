@@ -1,5 +1,5 @@
 -- What the tests of ranges say of each value, and the loop that makes them. Assumes nothing.
-use Rattle.std.specs.Prelude.{◌≡◌, ℕ, zero, suc, ◌+◌, ◌<◌, ◌≤◌, Bool, true, false, ◌&&◌, List, [], ◌∷◌, length, get_or, drop, ℤ, pos, negsuc, int_le, int_lt, slice_index_or, unsigned_abs, refl}
+use Rattle.std.specs.Prelude.{◌≡◌, ℕ, zero, suc, ◌+◌, ◌<◌, ◌≤◌, true, false, ◌&&◌, List, [], ◌∷◌, length, get_or, drop, ℤ, pos, negsuc, int_le, int_lt, slice_index_or, unsigned_abs, refl}
 use Rattle.std.proofs.Common.{arith}
 use Rattle.std.proofs.lemmas.List.{drop_more}
 use Rattle.std.proofs.lemmas.Int.{ints}
@@ -29,6 +29,9 @@ shorts_bounded = within_bounded (negsuc 32767) (pos 32767) 32768 (λ x p q. grin
 
 pub bounded_shorts : (xs : List ℤ) → Bounded 32767 xs → shorts xs ≡ true
 bounded_shorts = bounded_within (negsuc 32767) (pos 32767) 32767 (λ x h. grind (arith, ints))
+
+pub residuals_shorts : (xs : List ℤ) → residuals xs ≡ true → shorts xs ≡ true
+residuals_shorts xs h = bounded_shorts xs (λ k. omega (arith, residuals_bounded xs h k))
 
 -- ---- the loop: what is left to test, from place i on
 not_below : (a b : ℤ) → int_lt b a ≡ false → int_le a b ≡ true

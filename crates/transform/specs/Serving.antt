@@ -1,5 +1,5 @@
 -- A transform of one standard is sound where its rules are. Assumes nothing.
-use Rattle.std.specs.Prelude.{◌≡◌, ℕ, true, false, cond, ◌==◌}
+use Rattle.std.specs.Prelude.{ℕ, true, false, cond, ◌==◌}
 use Rattle.std.proofs.lemmas.Bool.{false≢true}
 use Rattle.transform.specs.Meaning.{Rules, Sound, unserved, only_at}
 

@@ -1,10 +1,11 @@
 // Every refusal by its number, with the output left as it was.
-ghost use Rattle.std.specs.Prelude.{◌≡◌, ℕ, ◌&&◌, None, ◌==◌, nat_le};
-ghost use Rattle.transform.specs.Meaning.{only_at};
-ghost use Rattle.std.proofs.Common.{arith};
+ghost use Rattle.std.specs.Prelude.{◌&&◌, None, ◌==◌, nat_le, refl};
+ghost use Rattle.std.proofs.Math.Nat.{le_trans};
 ghost use Rattle.std.proofs.lemmas.Bool.{and_parts, leb-true};
+ghost use Rattle.std.proofs.lemmas.Option.{none-some};
+ghost use Rattle.transform.specs.Meaning.{only_at};
+ghost use Rattle.transform.specs.Ranges.{residuals_shorts};
 ghost use Rattle.transform.specs.Serving.{only_sound};
-ghost use Rattle.transform.specs.Ranges.{residuals_bounded, bounded_shorts};
 
 use crate::{Fault, Transform};
 
@@ -17,9 +18,9 @@ impl Transform for Silent {
 
     ghost sound = { λ t standard.
         only_sound 7 _ standard (record {
-          steps = λ side step u. omega (arith, leb-true step 3 (and_parts (side == 4) (nat_le step 3) u).1);
-          choices = λ side step xs s u l w. record { many = l; small = bounded_shorts xs (λ k. omega (arith, residuals_bounded xs w k)) };
-          rebuilds = λ side step xs ys s u b e. absurd (let z : ◌≡◌ {A = ℕ} 0 1 = cc in omega arith);
+          steps = λ side step u. le_trans (leb-true step 3 (and_parts (side == 4) (nat_le step 3) u).1) (leb-true 3 65535 refl);
+          choices = λ side step xs s u l r. record { many = l; small = residuals_shorts xs r };
+          rebuilds = λ side step xs ys s u b e. absurd (none-some ys e);
         }) };
 
     fn is_usable(&self, standard: u32, side: usize, step: u32) -> bool {
