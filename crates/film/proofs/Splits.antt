@@ -1,6 +1,5 @@
 -- The fields of a line, as they are cut off. Assumes nothing.
 use Rattle.std.proofs.Common.{◌≡◌, ℕ, suc, ◌+◌, ◌-◌, ◌<◌, ◌≤◌, Bool, true, false, eqb, List, [], ◌∷◌, ◌++◌, length, get_or, take, drop, Some, None, Err, sym, refl, ap, ◌∙◌, inl, inr, add-one, arith}
-use native.Mathlib.Nat.{sub-zero}
 use Rattle.std.specs.List.{AllByRecursion as All}
 use Rattle.std.proofs.lemmas.List.{take_rest, drop_more, drop_all, take_all, at_drop_more, at_drop_all, append_assoc, append-nil}
 use Rattle.std.proofs.lemmas.Bool.{cases_Bool, cond-true, cond-false, cases_lt, eq-eqb, ne_eqb, eqb-true, eqb-false}

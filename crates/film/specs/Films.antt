@@ -1,5 +1,5 @@
 -- Texts of many lines, and what reading and writing have to do with each other. Assumes nothing.
-use Rattle.std.specs.Prelude.{◌≡◌, ℕ, zero, suc, ◌+◌, List, [], ◌∷◌, ◌++◌, length, drop, Some, Ok, Err, Result}
+use Rattle.std.specs.Prelude.{◌≡◌, ℕ, zero, suc, List, [], ◌∷◌, ◌++◌, length, drop, Some, Ok, Err, Result}
 use Rattle.film.specs.declared.fault.Fault.{Fault}
 use Rattle.film.specs.Numbers.{number_in}
 use Rattle.film.specs.Leaves.{levels_after, samples_after}

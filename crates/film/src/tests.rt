@@ -139,10 +139,10 @@ fn a_setting_line(rt: HostRuntime) -> Result<(), Fail> {
                 rest,
             ),
         ) => {
-            assert_eq!(rt; name, b"H264");
-            assert_eq!(rt; step, b"30");
-            assert_eq!(rt; tolerance, b"007");
-            assert_eq!(rt; rest, b"Q");
+            assert_eq!(rt; name, b"H264".as_slice());
+            assert_eq!(rt; step, b"30".as_slice());
+            assert_eq!(rt; tolerance, b"007".as_slice());
+            assert_eq!(rt; rest, b"Q".as_slice());
             Ok(())
         }
         _ => Err(Fail::new("no setting was read")),
@@ -153,9 +153,9 @@ fn a_setting_line(rt: HostRuntime) -> Result<(), Fail> {
 fn a_square_line(rt: HostRuntime) -> Result<(), Fail> {
     match read_line(b"Q\t\t12\n\n") {
         Ok((Line::Square { column, row }, rest)) => {
-            assert_eq!(rt; column, b"");
-            assert_eq!(rt; row, b"12");
-            assert_eq!(rt; rest, b"\n");
+            assert_eq!(rt; column, b"".as_slice());
+            assert_eq!(rt; row, b"12".as_slice());
+            assert_eq!(rt; rest, b"\n".as_slice());
             Ok(())
         }
         _ => Err(Fail::new("no square was read")),
@@ -166,15 +166,15 @@ fn a_square_line(rt: HostRuntime) -> Result<(), Fail> {
 fn leaf_lines(rt: HostRuntime) -> Result<(), Fail> {
     match read_line(b"T\t0\t64\nT\n") {
         Ok((Line::Levels { pairs }, rest)) => {
-            assert_eq!(rt; pairs, b"\t0\t64");
-            assert_eq!(rt; rest, b"T\n");
+            assert_eq!(rt; pairs, b"\t0\t64".as_slice());
+            assert_eq!(rt; rest, b"T\n".as_slice());
         }
         _ => return Err(Fail::new("no transform leaf was read")),
     }
     match read_line(b"R\n") {
         Ok((Line::Raw { samples }, rest)) => {
-            assert_eq!(rt; samples, b"");
-            assert_eq!(rt; rest, b"");
+            assert_eq!(rt; samples, b"".as_slice());
+            assert_eq!(rt; rest, b"".as_slice());
             Ok(())
         }
         _ => Err(Fail::new("no raw leaf was read")),
@@ -329,9 +329,9 @@ fn names(rt: HostRuntime) {
     assert_eq!(rt; Standard::named(b"VC-1"), None);
     assert_eq!(rt; Standard::named(b"HEVC "), None);
     assert_eq!(rt; Standard::named(b""), None);
-    assert_eq!(rt; Standard::Hevc.name(), b"HEVC");
-    assert_eq!(rt; Standard::H264.name(), b"H264");
-    assert_eq!(rt; Standard::Vc1.name(), b"VC1");
+    assert_eq!(rt; Standard::Hevc.name(), b"HEVC".as_slice());
+    assert_eq!(rt; Standard::H264.name(), b"H264".as_slice());
+    assert_eq!(rt; Standard::Vc1.name(), b"VC1".as_slice());
 }
 
 #[test]
@@ -400,24 +400,18 @@ fn written_samples(samples: [u8; 4]) -> [u8; 24] {
 fn written_lines(rt: HostRuntime) {
     assert_eq!(rt;
         written_setting(Setting::opening()),
-        b"...M\tHEVC\t22\t8\n.........".as_slice()
+        *b"...M\tHEVC\t22\t8\n........."
     );
-    assert_eq!(rt;
-        written_square(0, 65535),
-        b"...Q\t0\t65535\n...........".as_slice()
-    );
-    assert_eq!(rt; written_split(), b"...S\n.".as_slice());
+    assert_eq!(rt; written_square(0, 65535), *b"...Q\t0\t65535\n...........");
+    assert_eq!(rt; written_split(), *b"...S\n.");
     assert_eq!(rt;
         written_levels([0, -32768, 0, 32767]),
-        b"...T\t1\t-32768\t3\t32767\n..".as_slice()
+        *b"...T\t1\t-32768\t3\t32767\n.."
     );
-    assert_eq!(rt;
-        written_levels([0; 4]),
-        b"...T\n...................".as_slice()
-    );
+    assert_eq!(rt; written_levels([0; 4]), *b"...T\n...................");
     assert_eq!(rt;
         written_samples([0, 9, 10, 255]),
-        b"...R\t0\t9\t10\t255\n........".as_slice()
+        *b"...R\t0\t9\t10\t255\n........"
     );
 }
 
@@ -439,7 +433,7 @@ fn a_written_setting_is_read_back(rt: HostRuntime) -> Result<(), Fail> {
     assert_eq!(rt; Standard::named(name), Some(Standard::Vc1));
     assert_eq!(rt; read_number(step), Ok(65535));
     assert_eq!(rt; read_number(tolerance), Ok(255));
-    assert_eq!(rt; rest, b".....");
+    assert_eq!(rt; rest, b".....".as_slice());
     Ok(())
 }
 
@@ -452,7 +446,7 @@ fn a_written_square_is_read_back(rt: HostRuntime) -> Result<(), Fail> {
     };
     assert_eq!(rt; read_number(column), Ok(7));
     assert_eq!(rt; read_number(row), Ok(65535));
-    assert_eq!(rt; rest, b"...........");
+    assert_eq!(rt; rest, b"...........".as_slice());
     Ok(())
 }
 

@@ -13,4 +13,4 @@ loop-b-preserved c =
     ]
 
 pub returns : goal.returns
-returns c = omega (arith, c.loop-b.invariant.0, count_end (rest1 c.args.tail.now) c.loop-b.b-index c.loop-b-test.false, ap length (fields_are c.args.tail.now (not_empty c.args.tail.now c.is-empty.result c.is-empty.ensures c.if-is-empty.false)))
+returns c = omega (arith, c.loop-b.invariant.0, count_end (rest1 c.args.tail.now) c.loop-b.b-index c.loop-b-test.false, ap length (fields_are c.args.tail.now (not_empty c.args.tail.now c.is_empty.result c.is_empty.ensures c.if-is_empty.false)))

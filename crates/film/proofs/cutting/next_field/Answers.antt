@@ -4,11 +4,11 @@ use Rattle.film.proofs.Places.{place_le}
 use Rattle.film.proofs.Splits.{rest1, fields_are, next_is}
 use Rattle.film.proofs.cutting.next_field.Goals as goal
 
-pub split-at-requires : goal.split-at-requires
-split-at-requires c = omega (arith, c.find.ensures, place_le 9 (rest1 c.args.tail.now))
+pub split_at-requires : goal.split_at-requires
+split_at-requires c = omega (arith, c.find.ensures, place_le 9 (rest1 c.args.tail.now))
 
 pub returns : goal.returns
 returns c =
     let xs = rest1 c.args.tail.now in
     fields_are c.args.tail.now c.requires ∙ next_is xs c.find.result c.find.ensures
-    ∙ sym (ap (λ f. f ∷ fields c.split-at.result.1.now) c.split-at.ensures.front ∙ ap (λ t. take c.find.result xs ∷ fields t) c.split-at.ensures.back)
+    ∙ sym (ap (λ f. f ∷ fields c.split_at.result.1.now) c.split_at.ensures.front ∙ ap (λ t. take c.find.result xs ∷ fields t) c.split_at.ensures.back)

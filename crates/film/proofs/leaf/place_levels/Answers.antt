@@ -7,46 +7,46 @@ use Rattle.film.proofs.Splits.{nothing_follows}
 use Rattle.film.proofs.Pairs.{odd_levels, even_levels, even_paired, cut_step, cut_within, cut_paired, pairs_end, no_fields, spread_with}
 use Rattle.film.proofs.leaf.place_levels.Goals as goal
 
-pub returns-then-count-fields-ne0 : goal.returns-then-count-fields-ne0
-returns-then-count-fields-ne0 c =
-    sym (odd_levels (length c.args.levels.now) (fields c.args.pairs.now) (λ e. c.if-count-fields-ne0.true (omega (arith, e, c.count-fields.ensures))))
+pub returns-then-count_fields-ne0 : goal.returns-then-count_fields-ne0
+returns-then-count_fields-ne0 c =
+    sym (odd_levels (length c.args.levels.now) (fields c.args.pairs.now) (λ e. c.if-count_fields-ne0.true (omega (arith, e, c.count_fields.ensures))))
 
 pub loop-rest-init : goal.loop-rest-init
 loop-rest-init c =
     let n = length c.fill.new.self in
     let fs = fields c.args.pairs.now in (
       ap (λ zs. spread_all zs (pairs_from 0 n fs)) (c.fill.ensures.after (λ y e. e) ∙ ap (λ k. replicate k (pos 0)) (sym c.fill.ensures.len)),
-      even_paired fs (omega (arith, c.if-count-fields-ne0.false, c.count-fields.ensures)),
+      even_paired fs (omega (arith, c.if-count_fields-ne0.false, c.count_fields.ensures)),
     )
 
-pub returns-in-err-position : goal.returns-in-err-position
-returns-in-err-position c =
+pub returns-in_err-position : goal.returns-in_err-position
+returns-in_err-position c =
     let n = length c.fill.new.self in
     let fs = fields c.args.pairs.now in
-    let p = err_from_is_err_and c.from-residual.result c.from-residual.ensures.1 in
-    let bad = c.in-err-position.ensures in
+    let p = err_from_is_err_and c.from_residual.result c.from_residual.ensures.1 in
+    let bad = c.in_err-position.ensures in
     ap (λ r. given r c.loop-rest.levels) p.1 ∙ ap Err (p.2 ∙ bad.0) ∙ ap (spread_all c.loop-rest.levels) (sym bad.1) ∙ c.loop-rest.invariant.0
-    ∙ sym (even_levels n fs (omega (arith, c.if-count-fields-ne0.false, c.count-fields.ensures))) ∙ ap (λ k. levels_in k fs) c.fill.ensures.len
+    ∙ sym (even_levels n fs (omega (arith, c.if-count_fields-ne0.false, c.count_fields.ensures))) ∙ ap (λ k. levels_in k fs) c.fill.ensures.len
 
-pub offset-bounds-levels-position : goal.offset-bounds-levels-position
-offset-bounds-levels-position c =
-    let i = c.in-ok-position in
+pub offset_bounds-levels-position : goal.offset_bounds-levels-position
+offset_bounds-levels-position c =
+    let i = c.in_ok-position in
     omega (arith, cut_within c.loop-rest.from (length c.fill.new.self) (fields c.loop-rest.rest.now) i.position i.level i.more i.ensures, c.loop-rest.auto.levels)
 
 pub bounds-levels-position : goal.bounds-levels-position
 bounds-levels-position c =
-    let i = c.in-ok-position in
+    let i = c.in_ok-position in
     omega (arith, cut_within c.loop-rest.from (length c.fill.new.self) (fields c.loop-rest.rest.now) i.position i.level i.more i.ensures, c.loop-rest.auto.levels)
 
-pub overflow-add-from : goal.overflow-add-from
-overflow-add-from c =
-    let i = c.in-ok-position in
+pub overflow_add-from : goal.overflow_add-from
+overflow_add-from c =
+    let i = c.in_ok-position in
     omega (arith, cut_within c.loop-rest.from (length c.fill.new.self) (fields c.loop-rest.rest.now) i.position i.level i.more i.ensures)
 
 pub loop-rest-preserved : goal.loop-rest-preserved
 loop-rest-preserved c =
     let n = length c.fill.new.self in
-    let i = c.in-ok-position in
+    let i = c.in_ok-position in
     let fs = fields c.loop-rest.rest.now in
     let more = pairs_from (i.position + 1) n (fields i.more.now) in
     let fits : SFits w32 i.level = search rules in (
@@ -60,6 +60,6 @@ pub returns : goal.returns
 returns c =
     let n = length c.fill.new.self in
     let fs = fields c.args.pairs.now in
-    let end = pairs_end c.loop-rest.from n (fields c.loop-rest.rest.now) (no_fields c.loop-rest.rest.now (nothing_follows c.loop-rest.rest.now c.is-empty.result c.is-empty.ensures c.loop-rest-test.false)) in
+    let end = pairs_end c.loop-rest.from n (fields c.loop-rest.rest.now) (no_fields c.loop-rest.rest.now (nothing_follows c.loop-rest.rest.now c.is_empty.result c.is_empty.ensures c.loop-rest-test.false)) in
     sym (ap (spread_all c.loop-rest.levels) end) ∙ c.loop-rest.invariant.0
-    ∙ sym (even_levels n fs (omega (arith, c.if-count-fields-ne0.false, c.count-fields.ensures))) ∙ ap (λ k. levels_in k fs) c.fill.ensures.len
+    ∙ sym (even_levels n fs (omega (arith, c.if-count_fields-ne0.false, c.count_fields.ensures))) ∙ ap (λ k. levels_in k fs) c.fill.ensures.len

@@ -8,25 +8,25 @@ use Rattle.film.proofs.Numerals.{err_none, ok_some}
 use Rattle.film.proofs.Samples.{samples_many, samples_all, behind, sample_none, sample_more, samples_end}
 use Rattle.film.proofs.leaf.place_samples.Goals as goal
 
-pub returns-then-count-fields-block : goal.returns-then-count-fields-block
-returns-then-count-fields-block c =
-    sym (samples_many (length c.args.block.now) (fields c.args.samples.now) (λ e. c.if-count-fields-block.true (c.count-fields.ensures ∙ e)))
+pub returns-then-count_fields-block : goal.returns-then-count_fields-block
+returns-then-count_fields-block c =
+    sym (samples_many (length c.args.block.now) (fields c.args.samples.now) (λ e. c.if-count_fields-block.true (c.count_fields.ensures ∙ e)))
 
-pub returns-in-err-block : goal.returns-in-err-block
-returns-in-err-block c =
+pub returns-in_err-block : goal.returns-in_err-block
+returns-in_err-block c =
     let fs = fields c.args.samples.now in
-    let p = err_from_is_err_and c.from-residual.result c.from-residual.ensures.1 in
-    let n = err_none c.sample-in.result c.in-err-block.field-0.0 c.in-err-block.ensures.value in
-    let none = sample_none (fields c.loop-i.rest.now) c.next-field.result.0.now (fields c.next-field.result.1.now) c.next-field.ensures (sym n.1 ∙ c.sample-in.ensures) in
+    let p = err_from_is_err_and c.from_residual.result c.from_residual.ensures.1 in
+    let n = err_none c.sample_in.result c.in_err-block.field-0.0 c.in_err-block.ensures.value in
+    let none = sample_none (fields c.loop-i.rest.now) c.next_field.result.0.now (fields c.next_field.result.1.now) c.next_field.ensures (sym n.1 ∙ c.sample_in.ensures) in
     ap (λ r. given r c.loop-i.block) p.1 ∙ ap Err (p.2 ∙ n.0)
-    ∙ sym (samples_all (length c.args.block.now) fs (sym c.count-fields.ensures ∙ c.if-count-fields-block.false) ∙ ap or_bad_field (sym c.loop-i.invariant.0 ∙ ap (behind (take c.loop-i.i c.loop-i.block)) none))
+    ∙ sym (samples_all (length c.args.block.now) fs (sym c.count_fields.ensures ∙ c.if-count_fields-block.false) ∙ ap or_bad_field (sym c.loop-i.invariant.0 ∙ ap (behind (take c.loop-i.i c.loop-i.block)) none))
 
 pub loop-i-preserved : goal.loop-i-preserved
 loop-i-preserved c =
-    let v = c.in-ok-block.field-0 in
-    let s = ok_some c.sample-in.result v (sym c.in-ok-block.ensures.value) in (
-      sym (sample_more (fields c.loop-i.rest.now) c.next-field.result.0.now (fields c.next-field.result.1.now) c.next-field.ensures c.loop-i.block c.loop-i.i v (omega (arith, c.loop-i.auto.block, c.loop-i-test.true)) (sym s ∙ c.sample-in.ensures)) ∙ c.loop-i.invariant.0,
-      omega (arith, ap length c.next-field.ensures, c.loop-i.invariant.1, length-set c.loop-i.block c.loop-i.i v),
+    let v = c.in_ok-block.field-0 in
+    let s = ok_some c.sample_in.result v (sym c.in_ok-block.ensures.value) in (
+      sym (sample_more (fields c.loop-i.rest.now) c.next_field.result.0.now (fields c.next_field.result.1.now) c.next_field.ensures c.loop-i.block c.loop-i.i v (omega (arith, c.loop-i.auto.block, c.loop-i-test.true)) (sym s ∙ c.sample_in.ensures)) ∙ c.loop-i.invariant.0,
+      omega (arith, ap length c.next_field.ensures, c.loop-i.invariant.1, length-set c.loop-i.block c.loop-i.i v),
     )
 
 pub returns : goal.returns
@@ -37,4 +37,4 @@ returns c =
     let end = samples_end (fields c.loop-i.rest.now) (omega (arith, c.loop-i.invariant.1, c.loop-i-test.false, c.loop-i.auto.block)) in
     let all = take_all i block (omega (arith, c.loop-i-test.false, c.loop-i.auto.block)) in
     ap Ok (sym (append-nil (take i block) ∙ all)) ∙ ap or_bad_field (sym (ap (behind (take i block)) end) ∙ c.loop-i.invariant.0)
-    ∙ sym (samples_all (length c.args.block.now) fs (sym c.count-fields.ensures ∙ c.if-count-fields-block.false))
+    ∙ sym (samples_all (length c.args.block.now) fs (sym c.count_fields.ensures ∙ c.if-count_fields-block.false))

@@ -33,13 +33,13 @@ returns-then-b-lt48 c =
       below = tt;
     }
 
-pub overflow-mul-n : goal.overflow-mul-n
-overflow-mul-n c =
+pub overflow_mul-n : goal.overflow_mul-n
+overflow_mul-n c =
     let f = front_short c.args.field.now c.loop-b.b-index c.loop-b-test.true c.if-size-gt5.false c.loop-b.invariant.1 in
     omega (arith, c.loop-b.invariant.0)
 
-pub overflow-add-n : goal.overflow-add-n
-overflow-add-n c =
+pub overflow_add-n : goal.overflow_add-n
+overflow_add-n c =
     let f = front_short c.args.field.now c.loop-b.b-index c.loop-b-test.true c.if-size-gt5.false c.loop-b.invariant.1 in
     omega (arith, c.loop-b.invariant.0)
 

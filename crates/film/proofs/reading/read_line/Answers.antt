@@ -7,5 +7,5 @@ pub returns : goal.returns
 unfolding line_of
 returns c =
     let text = c.args.text.now in
-    let whole = subst (λ o. Joins o text) (sym c.first-line.ensures) (line_joins text) in
-    record { is = c.first-line.ensures; whole = whole; shorter = made_shorter c.first-line.result text whole }
+    let whole = subst (λ o. Joins o text) (sym c.first_line.ensures) (line_joins text) in
+    record { is = c.first_line.ensures; whole = whole; shorter = made_shorter c.first_line.result text whole }

@@ -8,5 +8,5 @@ returns-then-n-lt10 t c = record { is = sym (len_digit c.args.n c.if-n-lt10.true
 
 pub returns-else-n-lt10 : goal.returns-else-n-lt10
 returns-else-n-lt10 t c =
-    let e = ap (λ m. m + 1) c.number-len.ensures.is ∙ sym (len_step c.args.n c.if-n-lt10.false (omega arith)) in
+    let e = ap (λ m. m + 1) c.number_len.ensures.is ∙ sym (len_step c.args.n c.if-n-lt10.false (omega arith)) in
     record { is = e; few = omega (arith, e, length-decimal-le 10 c.args.n (omega arith) (omega arith) (omega arith)) }

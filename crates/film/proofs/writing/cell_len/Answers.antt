@@ -8,4 +8,4 @@ returns-then-level-eq0 c = record { is = sym (ap length (cell_none c.args.positi
 pub returns : goal.returns
 returns c =
     let l = cell_length c.args.position c.args.level c.ranges.level c.if-level-eq0.false in
-    record { is = omega (arith, l, c.field-len.ensures.is, c.signed-len.ensures.is); few = omega (arith, c.field-len.ensures.few, c.signed-len.ensures.few) }
+    record { is = omega (arith, l, c.field_len.ensures.is, c.signed_len.ensures.is); few = omega (arith, c.field_len.ensures.few, c.signed_len.ensures.few) }

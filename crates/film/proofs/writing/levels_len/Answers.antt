@@ -11,8 +11,8 @@ loop-i-preserved c =
     let i = c.loop-i.i in
     let z = get_or zs i (pos 0) in
     let f : SFits w32 z = search rules in (
-      omega (arith, c.loop-i.invariant.0, c.cell-len-size.ensures.is, ap (λ y. length (cell_text i y)) (to_z-of_z w32 z f), ap length (cells_more zs i c.loop-i-test.true), length-append (cells_text 0 (take i zs)) (cell_text i z)),
-      omega (arith, c.loop-i.invariant.1, c.cell-len-size.ensures.few),
+      omega (arith, c.loop-i.invariant.0, c.cell_len-size.ensures.is, ap (λ y. length (cell_text i y)) (to_z-of_z w32 z f), ap length (cells_more zs i c.loop-i-test.true), length-append (cells_text 0 (take i zs)) (cell_text i z)),
+      omega (arith, c.loop-i.invariant.1, c.cell_len-size.ensures.few),
     )
 
 pub returns : goal.returns

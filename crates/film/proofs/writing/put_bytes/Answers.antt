@@ -9,4 +9,4 @@ returns c =
     let at = c.args.at in
     let bs = c.args.bytes.now in
     let xs = c.args.out.now in
-    subst (λ ys. Put at bs xs (at + length bs) (put_mid at (at + length bs - at) xs ys)) (sym c.copy-from-slice.ensures.after) (put_part at (at + length bs - at) bs xs (omega arith))
+    subst (λ ys. Put at bs xs (at + length bs) (put_mid at (at + length bs - at) xs ys)) (sym c.copy_from_slice.ensures.after) (put_part at (at + length bs - at) bs xs (omega arith))

@@ -8,8 +8,8 @@ use Rattle.film.proofs.writing.put_cells.Goals as goal
 pub loop-i-init : goal.loop-i-init
 loop-i-init c = put_none c.args.start c.args.out.now
 
-pub put-cell-at-requires : goal.put-cell-at-requires
-put-cell-at-requires c =
+pub put_cell-at-requires : goal.put_cell-at-requires
+put_cell-at-requires c =
     let zs = c.args.block.now in
     let i = c.loop-i.i in
     let f : SFits w32 (get_or zs i (pos 0)) = search rules in
@@ -21,7 +21,7 @@ loop-i-preserved c =
     let i = c.loop-i.i in
     let f : SFits w32 (get_or zs i (pos 0)) = search rules in
     put_as (ap (λ z. cells_text 0 (take i zs) ++ cell_text i z) (to_z-of_z w32 (get_or zs i (pos 0)) f) ∙ sym (cells_more zs i c.loop-i-test.true))
-    (put_then c.loop-i.invariant c.put-cell-at.ensures (omega (arith, cells_room zs i c.loop-i-test.true, c.requires.room)))
+    (put_then c.loop-i.invariant c.put_cell-at.ensures (omega (arith, cells_room zs i c.loop-i-test.true, c.requires.room)))
 
 pub returns : goal.returns
 returns c = put_as (ap (cells_text 0) (take_all c.loop-i.i c.args.block.now (omega arith))) c.loop-i.invariant

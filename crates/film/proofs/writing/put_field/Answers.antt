@@ -3,4 +3,4 @@ use Rattle.film.proofs.Writes.{put_then}
 use Rattle.film.proofs.writing.put_field.Goals as goal
 
 pub returns : goal.returns
-returns c = put_then c.put-at.ensures c.put-number.ensures (omega arith)
+returns c = put_then c.put-at.ensures c.put_number.ensures (omega arith)

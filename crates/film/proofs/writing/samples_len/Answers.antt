@@ -7,8 +7,8 @@ pub loop-sample-preserved : goal.loop-sample-preserved
 loop-sample-preserved c =
     let ss = c.args.samples.now in
     let i = c.loop-sample.sample-index in (
-      omega (arith, c.loop-sample.invariant.0, c.field-len-size.ensures.is, ap length (samples_more ss i c.loop-sample-test.true), length-append (samples_text (take i ss)) (9 ∷ decimal (get_or ss i 0))),
-      omega (arith, c.loop-sample.invariant.1, c.field-len-size.ensures.few),
+      omega (arith, c.loop-sample.invariant.0, c.field_len-size.ensures.is, ap length (samples_more ss i c.loop-sample-test.true), length-append (samples_text (take i ss)) (9 ∷ decimal (get_or ss i 0))),
+      omega (arith, c.loop-sample.invariant.1, c.field_len-size.ensures.few),
     )
 
 pub returns : goal.returns

@@ -7,22 +7,22 @@ use Rattle.film.proofs.writing.write_square.Goals as goal
 pub put-at-requires : goal.put-at-requires
 put-at-requires c = omega (arith, length_square c.args.column c.args.row, c.requires)
 
-pub put-field-at-requires : goal.put-field-at-requires
-put-field-at-requires c = omega (arith, length_square c.args.column c.args.row, c.requires, c.put-at.ensures.next, c.put-at.auto.out)
+pub put_field-at-requires : goal.put_field-at-requires
+put_field-at-requires c = omega (arith, length_square c.args.column c.args.row, c.requires, c.put-at.ensures.next, c.put-at.auto.out)
 
-pub put-field-at-requires-2 : goal.put-field-at-requires-2
-put-field-at-requires-2 c =
-    omega (arith, length_square c.args.column c.args.row, c.requires, c.put-at.ensures.next, c.put-at.auto.out, c.put-field-at.ensures.next, c.put-field-at.auto.out)
+pub put_field-at-requires-2 : goal.put_field-at-requires-2
+put_field-at-requires-2 c =
+    omega (arith, length_square c.args.column c.args.row, c.requires, c.put-at.ensures.next, c.put-at.auto.out, c.put_field-at.ensures.next, c.put_field-at.auto.out)
 
 pub put-requires : goal.put-requires
 put-requires c =
-    omega (arith, length_square c.args.column c.args.row, c.requires, c.put-at.ensures.next, c.put-at.auto.out, c.put-field-at.ensures.next, c.put-field-at.auto.out, c.put-field-at-2.ensures.next, c.put-field-at-2.auto.out)
+    omega (arith, length_square c.args.column c.args.row, c.requires, c.put-at.ensures.next, c.put-at.auto.out, c.put_field-at.ensures.next, c.put_field-at.auto.out, c.put_field-at-2.ensures.next, c.put_field-at-2.auto.out)
 
 pub returns : goal.returns
 returns c =
     let l = length_square c.args.column c.args.row in
-    let third = put_then c.put-field-at-2.ensures c.put.ensures (omega (arith, l, c.requires, c.put-at.ensures.next, c.put-at.auto.out, c.put-field-at.ensures.next, c.put-field-at.auto.out)) in
-    let second = put_then c.put-field-at.ensures third (omega (arith, l, c.requires, c.put-at.ensures.next, c.put-at.auto.out)) in
+    let third = put_then c.put_field-at-2.ensures c.put.ensures (omega (arith, l, c.requires, c.put-at.ensures.next, c.put-at.auto.out, c.put_field-at.ensures.next, c.put_field-at.auto.out)) in
+    let second = put_then c.put_field-at.ensures third (omega (arith, l, c.requires, c.put-at.ensures.next, c.put-at.auto.out)) in
     let put = put_as (sym (text_square c.args.column c.args.row)) (put_then c.put-at.ensures second (omega (arith, l, c.requires))) in
     let back = reads_back (square c.args.column c.args.row) (omega arith, omega arith) in
     record { put = put; back = back; found = found_at (square c.args.column c.args.row) c.args.at _ _ _ put c.requires back }
