@@ -1,8 +1,8 @@
 -- Where HEVC over a kernel is usable: at its own number, at a side that is served, at a step of 0 .. 51. Assumes nothing.
-use Rattle.std.proofs.Common.{◌≡◌, ℕ, ◌≤◌, Bool, true, false, cond, ◌&&◌, eqb, leb, refl}
+use Rattle.std.proofs.Common.{◌≡◌, ℕ, ◌≤◌, Bool, true, false, ◌&&◌, eqb, leb, refl}
 use Rattle.std.proofs.lemmas.Bool.{and_parts, leb-true, false≢true}
 use Rattle.exact.specs.Sums.{Matrix}
-use Rattle.transform.specs.Meaning.{Rules, unserved, only_at}
+use Rattle.transform.specs.Meaning.{only_at}
 use Rattle.hevc.specs.Hevc.{rules_of}
 
 pub record Usable (served : ℕ → Bool) (matrix : ℕ → Matrix) (standard side step : ℕ) : Type 0 where

@@ -1,5 +1,5 @@
 -- The cosine matrices of HEVC. Assumes nothing.
-use Rattle.std.specs.Prelude.{ℕ, ◌+◌, ◌-◌, ◌*◌, ◌/◌, ◌%◌, Bool, true, false, cond, List, [], ◌∷◌, map, ℤ, pos, neg_ℤ, ◌==◌, nat_lt, slice_index_or}
+use Rattle.std.specs.Prelude.{ℕ, ◌+◌, ◌-◌, ◌*◌, ◌/◌, ◌%◌, Bool, cond, List, [], ◌∷◌, map, ℤ, pos, neg_ℤ, ◌==◌, nat_lt, slice_index_or}
 use Rattle.exact.specs.Sums.{Matrix}
 
 -- the 32 numbers of the first column

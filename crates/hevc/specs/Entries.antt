@@ -1,5 +1,5 @@
 -- The entries of the cosine matrices are at most 90 in magnitude. Assumes nothing.
-use Rattle.std.specs.Prelude.{◌≡◌, ℕ, zero, suc, ◌+◌, ◌-◌, ◌*◌, ◌/◌, ◌%◌, ◌<◌, ◌≤◌, Bool, true, false, cond, ◌&&◌, T, List, [], ◌∷◌, map, ℤ, pos, neg_ℤ, ◌≤ℤ◌, ◌==◌, nat_le, nat_lt, slice_index_or, unsigned_abs, refl}
+use Rattle.std.specs.Prelude.{◌≡◌, ℕ, zero, suc, ◌+◌, ◌-◌, ◌*◌, ◌/◌, ◌%◌, ◌<◌, ◌≤◌, Bool, true, false, ◌&&◌, T, List, [], ◌∷◌, map, pos, neg_ℤ, ◌≤ℤ◌, ◌==◌, nat_le, nat_lt, slice_index_or, unsigned_abs, refl}
 use Rattle.std.proofs.Common.{add-mul, mul_comm, arith, leb→le}
 use Rattle.std.proofs.lemmas.Int.{ints}
 use Rattle.std.proofs.lemmas.Bool.{cond_both}

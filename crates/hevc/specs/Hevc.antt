@@ -1,8 +1,8 @@
 -- What the HEVC transform means, and what is shown of it. Assumes nothing.
-use Rattle.std.specs.Prelude.{◌≡◌, ℕ, ◌-◌, ◌*◌, Bool, true, ◌&&◌, List, ◌∷◌, replicate, ℤ, pos, negsuc, Some, nat_le}
+use Rattle.std.specs.Prelude.{◌≡◌, ℕ, ◌-◌, ◌*◌, Bool, ◌&&◌, List, ◌∷◌, replicate, ℤ, pos, negsuc, Some, nat_le}
 use Rattle.exact.specs.Sums.{Matrix}
 use Rattle.exact.specs.Rounding.{nearest}
-use Rattle.transform.specs.Meaning.{Rules, Meaning, sided, only_at}
+use Rattle.transform.specs.Meaning.{Rules, sided}
 use Rattle.hevc.specs.Cosine.{cosine}
 use Rattle.hevc.specs.Passes.{rebuilt_by, chosen_by}
 

@@ -1,16 +1,16 @@
 -- What is chosen and what is rebuilt are blocks of 16 bits, for every legal input. Assumes nothing.
-use Rattle.std.specs.Prelude.{◌≡◌, ℕ, ◌+◌, ◌-◌, ◌*◌, ◌/◌, ◌^◌, ◌<◌, ◌≤◌, Bool, true, ◌&&◌, ◌⊎◌, List, length, ℤ, pos, negsuc, ◌+ℤ◌, Some, nat_le, unsigned_abs, refl}
-use Rattle.std.proofs.Common.{sym, ap, subst, ◌∙◌, inl, inr, ⊎_elim, arith}
+use Rattle.std.specs.Prelude.{◌≡◌, ℕ, ◌+◌, ◌*◌, ◌<◌, ◌≤◌, Bool, true, ◌⊎◌, List, ℤ, pos, ◌+ℤ◌, nat_le, unsigned_abs}
+use Rattle.std.proofs.Common.{subst, inl, inr, arith}
 use Rattle.std.proofs.lemmas.Int.{ints}
 use Rattle.std.proofs.lemmas.Bool.{and_parts, leb-true}
 use Rattle.std.proofs.lemmas.Nat.{mul-le}
 use Rattle.exact.specs.Sums.{Matrix, product, transposed, Bounded}
-use Rattle.exact.specs.Blocks.{at, block}
-use Rattle.exact.specs.Rounding.{clip16, floor_shift, round_shift, nearest}
+use Rattle.exact.specs.Blocks.{at}
+use Rattle.exact.specs.Rounding.{floor_shift}
 use Rattle.exact.proofs.Sums.{product_abs}
 use Rattle.exact.proofs.Blocks.{length_block, block_bounded}
 use Rattle.exact.proofs.Rounding.{clip_abs, round_near, nearest_within}
-use Rattle.transform.specs.Meaning.{Rules, Sound, Block, sided}
+use Rattle.transform.specs.Meaning.{Sound, Block, sided}
 use Rattle.transform.specs.Ranges.{residuals_bounded, bounded_shorts}
 use Rattle.transform.proofs.Sides.{side_cases, side_range}
 use Rattle.hevc.specs.Scaling.{scale}

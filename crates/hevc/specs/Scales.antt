@@ -1,11 +1,11 @@
 -- The scaling number of a step, and a coefficient from it at 32 bits. Assumes nothing.
-use Rattle.std.specs.Prelude.{◌≡◌, ℕ, ◌+◌, ◌-◌, ◌*◌, ◌/◌, ◌%◌, ◌^◌, ◌<◌, ◌≤◌, List, [], ◌∷◌, ℤ, pos, ◌+ℤ◌, ◌*ℤ◌, FitsSigned, nat_eq, nat_le, slice_index, unsigned_abs, refl}
+use Rattle.std.specs.Prelude.{◌≡◌, ℕ, ◌+◌, ◌-◌, ◌*◌, ◌/◌, ◌%◌, ◌^◌, ◌≤◌, [], ◌∷◌, ℤ, pos, ◌+ℤ◌, ◌*ℤ◌, FitsSigned, nat_eq, nat_le, slice_index, unsigned_abs}
 use Rattle.std.proofs.Common.{sym, ap, ap₂, subst, ◌∙◌, mul_comm, arith, leb→le, eqb→eq, to_z, of_z}
-use Rattle.std.specs.Int.Signed.{shr_z, mag}
+use Rattle.std.specs.Int.Signed.{shr_z}
 use Rattle.std.specs.Int.{w32}
 use Rattle.std.proofs.lemmas.Int.{to_z-of_z, to_z_pos, ints}
 use Rattle.exact.specs.Rounding.{clip16, round_shift}
-use Rattle.exact.proofs.Computed.{upto, each}
+use Rattle.exact.proofs.Computed.{upto}
 use Rattle.exact.proofs.Rounding.{round_sixteen}
 use Rattle.exact.proofs.Sums.{abs_product, mul_assoc}
 use Rattle.hevc.specs.Scaling.{scale, coefficient}

@@ -20,12 +20,12 @@ fn rebuild_in<K: Kernel>(
     sums: &mut [i32],
     residual: &mut [i32],
 )
-    requires side { (sided side ≡ true) × (served kernel.now side ≡ true) }
+    requires side { (sided side ≡ true) × (K.served kernel.now side ≡ true) }
     requires step { step ≤ 51 }
     requires len { (length levels.now ≡ side * side) × (length residual.old ≡ side * side) }
     requires room { (length cells.old ≡ side * side) × (length sums.old ≡ side * side) }
     requires range { Bounded 32768 levels.now }
-    ensures { residual.new ≡ rebuilt_by (matrix kernel.now side) side step levels.now }
+    ensures { residual.new ≡ rebuilt_by (K.matrix kernel.now side) side step levels.now }
 {
     scale_levels(side, step, levels, cells);
     kernel.multiply_transposed(side, cells, sums);
@@ -44,12 +44,12 @@ fn choose_in<K: Kernel>(
     sums: &mut [i32],
     levels: &mut [i32],
 )
-    requires side { (sided side ≡ true) × (served kernel.now side ≡ true) }
+    requires side { (sided side ≡ true) × (K.served kernel.now side ≡ true) }
     requires step { step ≤ 51 }
     requires len { (length residual.now ≡ side * side) × (length levels.old ≡ side * side) }
     requires room { (length cells.old ≡ side * side) × (length sums.old ≡ side * side) }
     requires range { Bounded 255 residual.now }
-    ensures { levels.new ≡ chosen_by (matrix kernel.now side) side step residual.now }
+    ensures { levels.new ≡ chosen_by (K.matrix kernel.now side) side step residual.now }
 {
     let rounding = to_levels(side, step);
     kernel.multiply(side, residual, sums);
@@ -77,11 +77,11 @@ pub(crate) fn rebuild_block<K: Kernel, const AREA: usize>(
     levels: &[i32],
     residual: &mut [i32],
 )
-    requires side { (sided side ≡ true) × (served kernel.now side ≡ true) × (AREA ≡ side * side) }
+    requires side { (sided side ≡ true) × (K.served kernel.now side ≡ true) × (AREA ≡ side * side) }
     requires step { step ≤ 51 }
     requires len { (length levels.now ≡ side * side) × (length residual.old ≡ side * side) }
     requires range { Bounded 32768 levels.now }
-    ensures { residual.new ≡ rebuilt_by (matrix kernel.now side) side step levels.now }
+    ensures { residual.new ≡ rebuilt_by (K.matrix kernel.now side) side step levels.now }
 {
     let mut cells = [0i32; AREA];
     let mut sums = [0i32; AREA];
@@ -96,11 +96,11 @@ pub(crate) fn choose_block<K: Kernel, const AREA: usize>(
     residual: &[i32],
     levels: &mut [i32],
 )
-    requires side { (sided side ≡ true) × (served kernel.now side ≡ true) × (AREA ≡ side * side) }
+    requires side { (sided side ≡ true) × (K.served kernel.now side ≡ true) × (AREA ≡ side * side) }
     requires step { step ≤ 51 }
     requires len { (length residual.now ≡ side * side) × (length levels.old ≡ side * side) }
     requires range { Bounded 255 residual.now }
-    ensures { levels.new ≡ chosen_by (matrix kernel.now side) side step residual.now }
+    ensures { levels.new ≡ chosen_by (K.matrix kernel.now side) side step residual.now }
 {
     let mut cells = [0i32; AREA];
     let mut sums = [0i32; AREA];

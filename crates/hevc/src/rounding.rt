@@ -75,8 +75,8 @@ fn turn_row<R: Rounding>(rounding: &R, side: usize, sums: &[i32], i: usize, out:
     requires place { i < side }
     requires len { (length sums.now ≡ side * side) × (length out.old ≡ side * side) }
     requires small { Bounded sum_limit sums.now }
-    requires above { Filled (i * side) (placed side (turned_by (rounded rounding.now) side sums.now)) out.old }
-    ensures { Filled ((i + 1) * side) (placed side (turned_by (rounded rounding.now) side sums.now)) out.new }
+    requires above { Filled (i * side) (placed side (turned_by (R.rounded rounding.now) side sums.now)) out.old }
+    ensures { Filled ((i + 1) * side) (placed side (turned_by (R.rounded rounding.now) side sums.now)) out.new }
 {
     for j in 0..side {
         out[i * side + j] = rounding.round(sums[j * side + i]);
@@ -88,7 +88,7 @@ pub(crate) fn turn<R: Rounding>(rounding: &R, side: usize, sums: &[i32], out: &m
     requires side { sided side ≡ true }
     requires len { (length sums.now ≡ side * side) × (length out.old ≡ side * side) }
     requires small { Bounded sum_limit sums.now }
-    ensures { out.new ≡ block side (turned_by (rounded rounding.now) side sums.now) }
+    ensures { out.new ≡ block side (turned_by (R.rounded rounding.now) side sums.now) }
 {
     for i in 0..side {
         turn_row(rounding, side, sums, i, out);

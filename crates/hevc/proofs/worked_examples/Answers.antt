@@ -13,8 +13,8 @@ unfolding sum_z placed block nearest rebuilding first cosine32 scale log2 coeffi
 returns c = record {
   examples = record { lost = refl; kept = refl; above = refl; below = refl };
   value = (
-    ap (λ z. to_z w32 (of_z w32 z)) c.rebuilt-first.ensures,
-    ap (λ z. to_z w32 (of_z w32 z)) c.rebuilt-first-2.ensures,
+    ap (λ z. to_z w32 (of_z w32 z)) c.rebuilt_first.ensures,
+    ap (λ z. to_z w32 (of_z w32 z)) c.rebuilt_first-2.ensures,
     ap (λ z. to_z w64 (of_z w64 z)) c.nearest.ensures.value,
     ap (λ z. to_z w64 (of_z w64 z)) c.nearest-2.ensures.value,
   );

@@ -4,32 +4,32 @@ use Rattle.transform.specs.Ranges.{residuals_bounded}
 use Rattle.hevc.proofs.Usable.{usable_parts}
 use Rattle.hevc.proofs.HevcTransform.choose_legal.Goals as goal
 
-pub choose-block-requires : goal.choose-block-requires
-choose-block-requires g c =
+pub choose_block-requires : goal.choose_block-requires
+choose_block-requires g c =
     let k = c.args.self.now.kernel in
     let p = shape_parts c.args.side _ _ c.requires.shape in
-    let u = usable_parts (g.K.Kernel.served k) (g.K.Kernel.matrix k) c.args.-standard c.args.side c.args.step c.requires.usable in
-    record { side = (p.0, u.side-served, ap (λ n. n * n) (sym c.in-4.is)); step = u.step-low; len = (p.1, p.2); range = residuals_bounded _ c.requires.range }
+    let u = usable_parts (g.K.Kernel.served k) (g.K.Kernel.matrix k) c.args._standard c.args.side c.args.step c.requires.usable in
+    record { side = (p.0, u.side_served, ap (λ n. n * n) (sym c.in-4.is)); step = u.step_low; len = (p.1, p.2); range = residuals_bounded _ c.requires.range }
 
-pub choose-block-requires-in-8 : goal.choose-block-requires-in-8
-choose-block-requires-in-8 g c =
+pub choose_block-requires-in-8 : goal.choose_block-requires-in-8
+choose_block-requires-in-8 g c =
     let k = c.args.self.now.kernel in
     let p = shape_parts c.args.side _ _ c.requires.shape in
-    let u = usable_parts (g.K.Kernel.served k) (g.K.Kernel.matrix k) c.args.-standard c.args.side c.args.step c.requires.usable in
-    record { side = (p.0, u.side-served, ap (λ n. n * n) (sym c.in-8.is)); step = u.step-low; len = (p.1, p.2); range = residuals_bounded _ c.requires.range }
+    let u = usable_parts (g.K.Kernel.served k) (g.K.Kernel.matrix k) c.args._standard c.args.side c.args.step c.requires.usable in
+    record { side = (p.0, u.side_served, ap (λ n. n * n) (sym c.in-8.is)); step = u.step_low; len = (p.1, p.2); range = residuals_bounded _ c.requires.range }
 
-pub choose-block-requires-in-16 : goal.choose-block-requires-in-16
-choose-block-requires-in-16 g c =
+pub choose_block-requires-in-16 : goal.choose_block-requires-in-16
+choose_block-requires-in-16 g c =
     let k = c.args.self.now.kernel in
     let p = shape_parts c.args.side _ _ c.requires.shape in
-    let u = usable_parts (g.K.Kernel.served k) (g.K.Kernel.matrix k) c.args.-standard c.args.side c.args.step c.requires.usable in
-    record { side = (p.0, u.side-served, ap (λ n. n * n) (sym c.in-16.is)); step = u.step-low; len = (p.1, p.2); range = residuals_bounded _ c.requires.range }
+    let u = usable_parts (g.K.Kernel.served k) (g.K.Kernel.matrix k) c.args._standard c.args.side c.args.step c.requires.usable in
+    record { side = (p.0, u.side_served, ap (λ n. n * n) (sym c.in-16.is)); step = u.step_low; len = (p.1, p.2); range = residuals_bounded _ c.requires.range }
 
-pub choose-block-requires-in-default : goal.choose-block-requires-in-default
-choose-block-requires-in-default g c =
+pub choose_block-requires-in_default : goal.choose_block-requires-in_default
+choose_block-requires-in_default g c =
     let k = c.args.self.now.kernel in
     let p = shape_parts c.args.side _ _ c.requires.shape in
-    let u = usable_parts (g.K.Kernel.served k) (g.K.Kernel.matrix k) c.args.-standard c.args.side c.args.step c.requires.usable in
+    let u = usable_parts (g.K.Kernel.served k) (g.K.Kernel.matrix k) c.args._standard c.args.side c.args.step c.requires.usable in
     let s = side_cases c.args.side p.0 in
     let e : c.args.side ≡ 32 = omega arith in
-    record { side = (p.0, u.side-served, ap (λ n. n * n) (sym e)); step = u.step-low; len = (p.1, p.2); range = residuals_bounded _ c.requires.range }
+    record { side = (p.0, u.side_served, ap (λ n. n * n) (sym e)); step = u.step_low; len = (p.1, p.2); range = residuals_bounded _ c.requires.range }

@@ -4,32 +4,32 @@ use Rattle.transform.specs.Ranges.{shorts_bounded}
 use Rattle.hevc.proofs.Usable.{usable_parts}
 use Rattle.hevc.proofs.HevcTransform.rebuild_legal.Goals as goal
 
-pub rebuild-block-requires : goal.rebuild-block-requires
-rebuild-block-requires g c =
+pub rebuild_block-requires : goal.rebuild_block-requires
+rebuild_block-requires g c =
     let k = c.args.self.now.kernel in
     let p = shape_parts c.args.side _ _ c.requires.shape in
-    let u = usable_parts (g.K.Kernel.served k) (g.K.Kernel.matrix k) c.args.-standard c.args.side c.args.step c.requires.usable in
-    record { side = (p.0, u.side-served, ap (λ n. n * n) (sym c.in-4.is)); step = u.step-low; len = (p.1, p.2); range = shorts_bounded _ c.requires.range }
+    let u = usable_parts (g.K.Kernel.served k) (g.K.Kernel.matrix k) c.args._standard c.args.side c.args.step c.requires.usable in
+    record { side = (p.0, u.side_served, ap (λ n. n * n) (sym c.in-4.is)); step = u.step_low; len = (p.1, p.2); range = shorts_bounded _ c.requires.range }
 
-pub rebuild-block-requires-in-8 : goal.rebuild-block-requires-in-8
-rebuild-block-requires-in-8 g c =
+pub rebuild_block-requires-in-8 : goal.rebuild_block-requires-in-8
+rebuild_block-requires-in-8 g c =
     let k = c.args.self.now.kernel in
     let p = shape_parts c.args.side _ _ c.requires.shape in
-    let u = usable_parts (g.K.Kernel.served k) (g.K.Kernel.matrix k) c.args.-standard c.args.side c.args.step c.requires.usable in
-    record { side = (p.0, u.side-served, ap (λ n. n * n) (sym c.in-8.is)); step = u.step-low; len = (p.1, p.2); range = shorts_bounded _ c.requires.range }
+    let u = usable_parts (g.K.Kernel.served k) (g.K.Kernel.matrix k) c.args._standard c.args.side c.args.step c.requires.usable in
+    record { side = (p.0, u.side_served, ap (λ n. n * n) (sym c.in-8.is)); step = u.step_low; len = (p.1, p.2); range = shorts_bounded _ c.requires.range }
 
-pub rebuild-block-requires-in-16 : goal.rebuild-block-requires-in-16
-rebuild-block-requires-in-16 g c =
+pub rebuild_block-requires-in-16 : goal.rebuild_block-requires-in-16
+rebuild_block-requires-in-16 g c =
     let k = c.args.self.now.kernel in
     let p = shape_parts c.args.side _ _ c.requires.shape in
-    let u = usable_parts (g.K.Kernel.served k) (g.K.Kernel.matrix k) c.args.-standard c.args.side c.args.step c.requires.usable in
-    record { side = (p.0, u.side-served, ap (λ n. n * n) (sym c.in-16.is)); step = u.step-low; len = (p.1, p.2); range = shorts_bounded _ c.requires.range }
+    let u = usable_parts (g.K.Kernel.served k) (g.K.Kernel.matrix k) c.args._standard c.args.side c.args.step c.requires.usable in
+    record { side = (p.0, u.side_served, ap (λ n. n * n) (sym c.in-16.is)); step = u.step_low; len = (p.1, p.2); range = shorts_bounded _ c.requires.range }
 
-pub rebuild-block-requires-in-default : goal.rebuild-block-requires-in-default
-rebuild-block-requires-in-default g c =
+pub rebuild_block-requires-in_default : goal.rebuild_block-requires-in_default
+rebuild_block-requires-in_default g c =
     let k = c.args.self.now.kernel in
     let p = shape_parts c.args.side _ _ c.requires.shape in
-    let u = usable_parts (g.K.Kernel.served k) (g.K.Kernel.matrix k) c.args.-standard c.args.side c.args.step c.requires.usable in
+    let u = usable_parts (g.K.Kernel.served k) (g.K.Kernel.matrix k) c.args._standard c.args.side c.args.step c.requires.usable in
     let s = side_cases c.args.side p.0 in
     let e : c.args.side ≡ 32 = omega arith in
-    record { side = (p.0, u.side-served, ap (λ n. n * n) (sym e)); step = u.step-low; len = (p.1, p.2); range = shorts_bounded _ c.requires.range }
+    record { side = (p.0, u.side_served, ap (λ n. n * n) (sym e)); step = u.step_low; len = (p.1, p.2); range = shorts_bounded _ c.requires.range }

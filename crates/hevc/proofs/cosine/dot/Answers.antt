@@ -1,8 +1,6 @@
 use Rattle.std.proofs.Common.{◌+◌, ◌*◌, ◌*ℤ◌, sym, ap, ◌∙◌, arith}
 use borrow.Author.Differences.{ints}
-use Rattle.exact.specs.Blocks.{at}
 use Rattle.exact.proofs.Sums.{sum_none}
-use Rattle.exact.proofs.Blocks.{place_below}
 use Rattle.transform.proofs.Sides.{side_range}
 use Rattle.hevc.specs.Cosine.{cosine, turned_if}
 use Rattle.hevc.proofs.Terms.{back32, sum_step}
@@ -11,8 +9,8 @@ use Rattle.hevc.proofs.cosine.dot.Goals as goal
 pub loop-k-init : goal.loop-k-init
 loop-k-init c = (sym (sum_none _), omega (arith, ints))
 
-pub overflow-add-sum : goal.overflow-add-sum
-overflow-add-sum c =
+pub overflow_add-sum : goal.overflow_add-sum
+overflow_add-sum c =
     let s = side_range c.args.side c.requires.side in
     omega (arith, ints, c.term-sum.ensures.small)
 

@@ -1,4 +1,4 @@
-use Rattle.std.proofs.Common.{◌≡◌, ℕ, ◌*◌, ◌≤◌, ◌*ℤ◌, nat_abs}
+use Rattle.std.proofs.Common.{◌≡◌, ◌*◌, ◌≤◌, ◌*ℤ◌, nat_abs}
 use Rattle.exact.specs.Sums.{sum_z}
 use Rattle.exact.specs.Blocks.{at}
 use Rattle.hevc.specs.Limits.{term_limit}

@@ -9,7 +9,7 @@ use Rattle.hevc.proofs.cosine.multiply_row.Goals as goal
 pub loop-j-preserved : goal.loop-j-preserved
 loop-j-preserved c =
     filled_cell c.args.side (product c.args.side (turned_if c.args.turned (cosine c.args.side)) (at c.args.side c.args.given.now)) _ c.args.i c.loop-j.j _
-    c.requires.place c.loop-j-test.true (omega arith) (to_z-of_z w32 _ (record { sfits = c.dot.type-inv }) ∙ c.dot.ensures) c.loop-j.invariant
+    c.requires.place c.loop-j-test.true (omega arith) (to_z-of_z w32 _ (record { sfits = c.dot.type_inv }) ∙ c.dot.ensures) c.loop-j.invariant
 
 pub returns : goal.returns
 returns c = row_ends c.args.side _ _ c.args.i c.loop-j.j c.loop-j-test.false c.loop-j.invariant

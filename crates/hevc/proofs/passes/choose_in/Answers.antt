@@ -35,4 +35,4 @@ turn-requires-2 g c =
     }
 
 pub returns : goal.returns
-returns g c = chosen_is (g.K.Kernel.matrix c.args.kernel.now c.args.side) c.args.side c.args.step c.to-levels-rounding.result.divisor c.args.residual.now _ _ _ _ c.requires.len.0 c.to-levels-rounding.ensures c.multiply.ensures c.turn.ensures c.multiply-2.ensures c.turn-2.ensures
+returns g c = chosen_is (g.K.Kernel.matrix c.args.kernel.now c.args.side) c.args.side c.args.step c.to_levels-rounding.result.divisor c.args.residual.now _ _ _ _ c.requires.len.0 c.to_levels-rounding.ensures c.multiply.ensures c.turn.ensures c.multiply-2.ensures c.turn-2.ensures

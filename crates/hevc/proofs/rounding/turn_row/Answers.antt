@@ -9,7 +9,7 @@ pub loop-j-preserved : goal.loop-j-preserved
 loop-j-preserved g c =
     let b = c.requires.small (c.loop-j.j * c.args.side + c.args.i) in
     filled_cell c.args.side (turned_by (g.R.Rounding.rounded c.args.rounding.now) c.args.side c.args.sums.now) _ c.args.i c.loop-j.j _
-    c.requires.place c.loop-j-test.true (omega arith) (to_z-of_z w32 _ (record { sfits = c.round.type-inv }) ∙ c.round.ensures ∙ ap (g.R.Rounding.rounded c.args.rounding.now) (back32 _ (omega arith))) c.loop-j.invariant
+    c.requires.place c.loop-j-test.true (omega arith) (to_z-of_z w32 _ (record { sfits = c.round.type_inv }) ∙ c.round.ensures ∙ ap (g.R.Rounding.rounded c.args.rounding.now) (back32 _ (omega arith))) c.loop-j.invariant
 
 pub returns : goal.returns
 returns g c = row_ends c.args.side _ _ c.args.i c.loop-j.j c.loop-j-test.false c.loop-j.invariant

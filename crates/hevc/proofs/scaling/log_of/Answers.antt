@@ -16,6 +16,6 @@ pub returns-in-16 : goal.returns-in-16
 unfolding log2
 returns-in-16 c = record { value = grind (arith, nat_tests); range = omega arith }
 
-pub returns-in-default : goal.returns-in-default
+pub returns-in_default : goal.returns-in_default
 unfolding log2
-returns-in-default c = let s = side_cases c.args.side c.requires in record { value = grind (arith, nat_tests); range = omega arith }
+returns-in_default c = let s = side_cases c.args.side c.requires in record { value = grind (arith, nat_tests); range = omega arith }

@@ -9,10 +9,10 @@ use Rattle.hevc.proofs.scaling.scale_levels.Goals as goal
 pub loop-p-preserved : goal.loop-p-preserved
 loop-p-preserved c =
     let b = c.requires.range c.loop-p.p in
-    filled_more (λ p. coefficient c.log-of-log.result c.scale-of-scale.result (get_or c.args.levels.now p (pos 0))) _ _ _ (omega arith)
-    (to_z-of_z w32 _ (record { sfits = c.coefficient-of.type-inv }) ∙ c.coefficient-of.ensures ∙ ap (coefficient c.log-of-log.result c.scale-of-scale.result) (back32 _ (omega arith))) c.loop-p.invariant
+    filled_more (λ p. coefficient c.log_of-log.result c.scale_of-scale.result (get_or c.args.levels.now p (pos 0))) _ _ _ (omega arith)
+    (to_z-of_z w32 _ (record { sfits = c.coefficient_of.type_inv }) ∙ c.coefficient_of.ensures ∙ ap (coefficient c.log_of-log.result c.scale_of-scale.result) (back32 _ (omega arith))) c.loop-p.invariant
 
 pub returns : goal.returns
 returns c =
-    mapped_all c.args.side (coefficient c.log-of-log.result c.scale-of-scale.result) c.args.levels.now _ c.loop-p.p (omega arith) (omega arith) c.loop-p.invariant
-    ∙ ap₂ (λ l s. block c.args.side (λ i j. coefficient l s (at c.args.side c.args.levels.now i j))) c.log-of-log.ensures.value c.scale-of-scale.ensures.value
+    mapped_all c.args.side (coefficient c.log_of-log.result c.scale_of-scale.result) c.args.levels.now _ c.loop-p.p (omega arith) (omega arith) c.loop-p.invariant
+    ∙ ap₂ (λ l s. block c.args.side (λ i j. coefficient l s (at c.args.side c.args.levels.now i j))) c.log_of-log.ensures.value c.scale_of-scale.ensures.value

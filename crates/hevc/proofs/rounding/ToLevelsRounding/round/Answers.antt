@@ -21,8 +21,8 @@ module _ (y r : ℤ) (d : ℕ) (h : nat_abs y ≤ sum_limit) (p : 0 < d) (e : r 
   narrowed : to_z w32 (of_z w32 (to_z w64 (of_z w64 r))) ≡ nearest y d
   narrowed = (let s = small in let t : to_z w32 (of_z w32 (to_z w64 (of_z w64 r))) ≡ r = omega (arith, ints) in t) ∙ is
 
-pub overflow-cast-result : goal.overflow-cast-result
-overflow-cast-result c = fits c.args.sum _ c.args.self.now.divisor c.requires c.args.self.now.some c.nearest.ensures.value
+pub overflow_cast-result : goal.overflow_cast-result
+overflow_cast-result c = fits c.args.sum _ c.args.self.now.divisor c.requires c.args.self.now.some c.nearest.ensures.value
 
 pub returns : goal.returns
 returns c = narrowed c.args.sum _ c.args.self.now.divisor c.requires c.args.self.now.some c.nearest.ensures.value
