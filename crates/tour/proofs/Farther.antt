@@ -1,5 +1,5 @@
 -- One more place seen. Assumes nothing.
-use Rattle.std.proofs.Common.{◌≡◌, ℕ, ◌+◌, ◌<◌, ◌≤◌, max, ◌⊎◌, List, ℤ, inl, inr, ⊎_elim, arith, below_more}
+use Rattle.std.proofs.Common.{◌≡◌, ℕ, ◌+◌, ◌≤◌, max, ◌⊎◌, List, ℤ, inl, inr, ⊎_elim, arith, below_more}
 use Rattle.tour.specs.Distances.{apart, Greatest}
 
 larger : (a r : ℕ) → (max a r ≡ a) ⊎ (max a r ≡ r)

@@ -37,7 +37,7 @@ struct Coded {
 }
 
 fn code<T: Transform>(transform: &T, step: u32, block: &[i32]) -> Result<Coded, Fault>
-    ensures { IfOk result (Codes (meaning transform.now 0) step block.now) }
+    ensures { IfOk result (Codes (T.meaning transform.now 0) step block.now) }
 {
     let mut levels = [0; 64];
     let mut rebuilt = [0; 64];

@@ -23,7 +23,7 @@ fn agrees(answer: Result<(), Fault>, rebuilt: &[i32], expected: &Expected) -> bo
 
 // A case rebuilt by a transform, under a standard's number, into a block.
 fn compare<T: Transform>(transform: &T, standard: u32, case: &Case, block: &mut [i32]) -> Verdict
-    ensures { Judged (rebuilding (meaning transform.now standard) standard case.now.side case.now.step case.now.levels.items (length block.old)) case.now.expected result }
+    ensures { Judged (rebuilding (T.meaning transform.now standard) standard case.now.side case.now.step case.now.levels.items (length block.old)) case.now.expected result }
 {
     let answer = transform.rebuild(
         standard,
@@ -46,7 +46,7 @@ fn judge_by<T: Transform>(
     standard: u32,
     case: &Case,
 ) -> Result<Verdict, AllocError>
-    ensures { IfOk result (Judged (rebuilt_case (meaning transform.now standard) standard case.now) case.now.expected) }
+    ensures { IfOk result (Judged (rebuilt_case (T.meaning transform.now standard) standard case.now) case.now.expected) }
 {
     let mut block = vec![in heap; 0; case.levels.len()]?;
     Ok(compare(transform, standard, case, block.as_mut_slice()))
