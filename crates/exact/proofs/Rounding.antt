@@ -3,11 +3,10 @@ use Rattle.std.proofs.Common.{◌≡◌, ℕ, suc, ◌+◌, ◌-◌, ◌*◌, �
 use native.Mathlib.Nat.{div-div-eq-div-mul}
 use lib.Signed.{lt_z, shr_z}
 use borrow.Author.Differences.{up, down, ints, sum_is_lem, neg_is, product_is, abs_is, lt_out}
-use Rattle.std.proofs.lemmas.Int.{by_lt_z}
+use Rattle.std.proofs.lemmas.Int.{by_lt_z, unsigned_abs-mul}
 use Rattle.std.proofs.lemmas.Nat.{pow_pos, pow-add, mul-le, div-add-mod', mod_below, div_below}
 use Rattle.std.proofs.lemmas.Bool.{cond_both}
 use Rattle.exact.specs.Rounding.{clip16, round_shift, nearest, Closest}
-use Rattle.exact.proofs.Sums.{abs_mul}
 
 -- ---- the nearest whole number
 twice : (d : ℕ) → 0 < d → 0 < 2 * d
@@ -48,8 +47,8 @@ not_below y d z q p h k l =
     not_both d (pos d *ℤ z) (pos d *ℤ q) y p
     (let m = mul-le d (up z + down q + 1) d (up q + down z) (omega arith) (omega (arith, lt_out z q l)) in omega (arith, product_is))
     h.half k.half
-    (λ e. rw (abs_mul (pos d) z) (h.tie e))
-    (λ e. rw (abs_mul (pos d) q) (k.tie e))
+    (λ e. rw (unsigned_abs-mul (pos d) z) (h.tie e))
+    (λ e. rw (unsigned_abs-mul (pos d) q) (k.tie e))
 
 pub nearest_only : (y : ℤ) (d : ℕ) → 0 < d → (z : ℤ) → Closest y d z → z ≡ nearest y d
 nearest_only y d p z h =

@@ -1,7 +1,8 @@
 -- Laws of sums of integers and of products of matrices. Assumes nothing.
-use Rattle.std.proofs.Common.{◌≡◌, ℕ, zero, suc, ◌+◌, ◌*◌, ◌<◌, ◌≤◌, ℤ, pos, negsuc, ◌+ℤ◌, ◌*ℤ◌, neg_ℤ, nat_abs, refl, ap, ap₂, suc-mul, add-one, arith}
+use Rattle.std.proofs.Common.{◌≡◌, ℕ, zero, suc, ◌+◌, ◌*◌, ◌<◌, ◌≤◌, ℤ, pos, ◌+ℤ◌, ◌*ℤ◌, nat_abs, refl, ap, ap₂, suc-mul, add-one, arith}
 use lib.IntN.{*ℤ_comm}
 use borrow.Author.Differences.{up, down, ints, same_in, product_is}
+use Rattle.std.proofs.lemmas.Int.{unsigned_abs-mul}
 use Rattle.std.proofs.lemmas.Nat.{mul-le}
 use Rattle.exact.specs.Sums.{sum_z, Matrix, product, transposed}
 
@@ -25,17 +26,8 @@ unfolding sum_z
 sum_abs zero f m h = omega arith
 sum_abs (suc n) f m h = omega (arith, ints, sum_abs n f m (λ k l. h k (omega arith)), h n (omega arith), suc-mul n m)
 
-abs_neg : (a : ℤ) → nat_abs (neg_ℤ a) ≡ nat_abs a
-abs_neg a = omega (arith, ints)
-
-pub abs_mul : (a b : ℤ) → nat_abs (a *ℤ b) ≡ nat_abs a * nat_abs b
-abs_mul (pos a) (pos b) = refl
-abs_mul (pos a) (negsuc b) = abs_neg (pos (a * suc b))
-abs_mul (negsuc a) (pos b) = abs_neg (pos (suc a * b))
-abs_mul (negsuc a) (negsuc b) = refl
-
 pub abs_product : (a b : ℤ) (m n : ℕ) → nat_abs a ≤ m → nat_abs b ≤ n → nat_abs (a *ℤ b) ≤ m * n
-abs_product a b m n h k = rw (abs_mul a b) (mul-le (nat_abs a) (nat_abs b) m n h k)
+abs_product a b m n h k = rw (unsigned_abs-mul a b) (mul-le (nat_abs a) (nat_abs b) m n h k)
 
 pub mul_assoc : (a b c : ℤ) → (a *ℤ b) *ℤ c ≡ a *ℤ (b *ℤ c)
 mul_assoc a b c =

@@ -9,13 +9,7 @@ pub fn clip16(v: i32) -> i32
     ensures value { result ≡ clip16 v }
     ensures nearer { (b : ℤ) → negsuc 32767 ≤ℤ b → b ≤ℤ pos 32767 → unsigned_abs (result -ℤ b) ≤ unsigned_abs (v -ℤ b) }
 {
-    if v > 32767 {
-        32767
-    } else if v < -32768 {
-        -32768
-    } else {
-        v
-    }
+    v.clamp(-32768, 32767)
 }
 
 // v divided by 2 to the power of k, half of it added first, rounded down: at most half a step away.
