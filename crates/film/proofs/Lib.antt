@@ -1,4 +1,3 @@
-pub mod Standards
 pub mod Places
 pub mod Splits
 pub mod Wholes

@@ -1,5 +1,5 @@
 -- The three standards, by number and by name. Assumes nothing.
-use Rattle.std.specs.Prelude.{ℕ, cond, List, Some, None, codes, Option, ◌==◌}
+use Rattle.std.specs.Prelude.{◌≡◌, ℕ, cond, List, Some, None, codes, Option, ◌==◌}
 use Rattle.std.specs.Str.{bytes_eq}
 use Rattle.film.specs.declared.standard.Standard.{Standard}
 use Rattle.film.specs.declared.standard.Standard.TheVariants.{Hevc, H264, Vc1}
@@ -24,3 +24,7 @@ abbrev pub named : List ℕ → Option Standard
 named bs =
     cond (bytes_eq bs (name_of Hevc)) (Some Hevc)
     (cond (bytes_eq bs (name_of H264)) (Some H264) (cond (bytes_eq bs (name_of Vc1)) (Some Vc1) None))
+
+-- n is the number of a standard, and that standard the one of n
+abbrev pub IsNumberOf : Standard → ℕ → Type 0
+IsNumberOf standard n = record { is : n ≡ number_of standard; back : numbered n ≡ Some standard }

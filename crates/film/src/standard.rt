@@ -1,7 +1,10 @@
 // The three standards, by number and by name.
-ghost use Rattle.std.specs.Prelude.{◌≡◌, Some};
-ghost use Rattle.std.specs.Str.{bytes_eq};
-ghost use Rattle.film.specs.Standards.{number_of, name_of, numbered, named};
+ghost use Rattle.std.specs.Prelude.{◌≡◌, Some, IfErr};
+ghost use Rattle.std.specs.Result.{result_ok};
+ghost use Rattle.film.specs.Standards.{name_of, numbered, named, IsNumberOf};
+
+use std::error::Error;
+use std::fmt;
 
 #[derive(Clone, Copy, PartialEq, Eq, Debug)]
 pub enum Standard {
@@ -10,31 +13,15 @@ pub enum Standard {
     Vc1,
 }
 
+// A number that no standard has.
+#[derive(Clone, Copy, PartialEq, Eq, Debug)]
+pub struct UnknownNumber(pub u32);
+
+// Bytes that are no standard's name.
+#[derive(Clone, Copy, PartialEq, Eq, Debug)]
+pub struct UnknownName;
+
 impl Standard {
-    // The number by which a transform knows the standard.
-    pub fn number(self) -> u32
-        ensures is { result ≡ number_of self }
-        ensures back { numbered result ≡ Some self }
-    {
-        match self {
-            Standard::Hevc => 0,
-            Standard::H264 => 1,
-            Standard::Vc1 => 2,
-        }
-    }
-
-    // The standard of a number.
-    pub fn numbered(number: u32) -> Option<Standard>
-        ensures { result ≡ numbered number }
-    {
-        match number {
-            0 => Some(Standard::Hevc),
-            1 => Some(Standard::H264),
-            2 => Some(Standard::Vc1),
-            _ => None,
-        }
-    }
-
     // The name that stands in a film.
     pub fn name(self) -> &'static [u8]
         ensures is { result.now ≡ name_of self }
@@ -46,26 +33,63 @@ impl Standard {
             Standard::Vc1 => b"VC1",
         }
     }
+}
 
-    // The standard of a name.
-    pub fn named(name: &[u8]) -> Option<Standard>
-        ensures { result ≡ named name.now }
-    {
-        if Standard::Hevc.is_named(name) {
-            Some(Standard::Hevc)
-        } else if Standard::H264.is_named(name) {
-            Some(Standard::H264)
-        } else if Standard::Vc1.is_named(name) {
-            Some(Standard::Vc1)
-        } else {
-            None
+// The number by which a transform knows the standard.
+impl From<Standard> for u32 {
+    ghost from_gives = { IsNumberOf };
+
+    fn from(standard: Standard) -> u32 {
+        match standard {
+            Standard::Hevc => 0,
+            Standard::H264 => 1,
+            Standard::Vc1 => 2,
         }
     }
+}
 
-    // Whether these are the bytes that `name` gives.
-    fn is_named(self, name: &[u8]) -> bool
-        ensures { result ≡ bytes_eq name.now (name_of self) }
-    {
-        name == self.name()
+// The standard of a number.
+impl TryFrom<u32> for Standard {
+    type Error = UnknownNumber;
+
+    ghost try_from_gives = { λ n r. (result_ok r ≡ numbered n) × IfErr r (λ e. e.0 ≡ n) };
+
+    fn try_from(number: u32) -> Result<Standard, UnknownNumber> {
+        match number {
+            0 => Ok(Standard::Hevc),
+            1 => Ok(Standard::H264),
+            2 => Ok(Standard::Vc1),
+            _ => Err(UnknownNumber(number)),
+        }
     }
 }
+
+// The standard of a name: the one whose `name` gives these bytes.
+impl TryFrom<&[u8]> for Standard {
+    type Error = UnknownName;
+
+    ghost try_from_gives = { λ name r. result_ok r ≡ named name.now };
+
+    fn try_from(name: &[u8]) -> Result<Standard, UnknownName> {
+        [Standard::Hevc, Standard::H264, Standard::Vc1]
+            .into_iter()
+            .find(|standard| standard.name() == name)
+            .ok_or(UnknownName)
+    }
+}
+
+impl fmt::Display for UnknownNumber {
+    fn fmt<W: fmt::Write>(&self, f: &mut fmt::Formatter<W>) -> fmt::Result {
+        write!(f, "no standard has the number {}", self.0)
+    }
+}
+
+impl fmt::Display for UnknownName {
+    fn fmt<W: fmt::Write>(&self, f: &mut fmt::Formatter<W>) -> fmt::Result {
+        f.write_str("no standard has this name")
+    }
+}
+
+impl Error for UnknownNumber {}
+
+impl Error for UnknownName {}

@@ -1,8 +1,9 @@
 // Good and bad texts, each with its number; lines written among bytes that stay.
 use crate::{
-    Fault, Line, Setting, Standard, count_lines, fill_levels, fill_samples, levels_len, read_level,
-    read_levels, read_line, read_number, read_samples, samples_len, setting_len, split_len,
-    square_len, write_levels, write_samples, write_setting, write_split, write_square,
+    Fault, Line, Setting, Standard, UnknownName, UnknownNumber, count_lines, fill_levels,
+    fill_samples, levels_len, read_level, read_levels, read_line, read_number, read_samples,
+    samples_len, setting_len, split_len, square_len, write_levels, write_samples, write_setting,
+    write_split, write_square,
 };
 use std::test::Fail;
 
@@ -322,13 +323,13 @@ fn scratch_blocks(rt: HostRuntime) {
 
 #[test]
 fn names(rt: HostRuntime) {
-    assert_eq!(rt; Standard::named(b"HEVC"), Some(Standard::Hevc));
-    assert_eq!(rt; Standard::named(b"H264"), Some(Standard::H264));
-    assert_eq!(rt; Standard::named(b"VC1"), Some(Standard::Vc1));
-    assert_eq!(rt; Standard::named(b"hevc"), None);
-    assert_eq!(rt; Standard::named(b"VC-1"), None);
-    assert_eq!(rt; Standard::named(b"HEVC "), None);
-    assert_eq!(rt; Standard::named(b""), None);
+    assert_eq!(rt; Standard::try_from(b"HEVC".as_slice()), Ok(Standard::Hevc));
+    assert_eq!(rt; Standard::try_from(b"H264".as_slice()), Ok(Standard::H264));
+    assert_eq!(rt; Standard::try_from(b"VC1".as_slice()), Ok(Standard::Vc1));
+    assert_eq!(rt; Standard::try_from(b"hevc".as_slice()), Err(UnknownName));
+    assert_eq!(rt; Standard::try_from(b"VC-1".as_slice()), Err(UnknownName));
+    assert_eq!(rt; Standard::try_from(b"HEVC ".as_slice()), Err(UnknownName));
+    assert_eq!(rt; Standard::try_from(b"".as_slice()), Err(UnknownName));
     assert_eq!(rt; Standard::Hevc.name(), b"HEVC".as_slice());
     assert_eq!(rt; Standard::H264.name(), b"H264".as_slice());
     assert_eq!(rt; Standard::Vc1.name(), b"VC1".as_slice());
@@ -336,13 +337,13 @@ fn names(rt: HostRuntime) {
 
 #[test]
 fn standards_by_number(rt: HostRuntime) {
-    assert_eq!(rt; Standard::numbered(0), Some(Standard::Hevc));
-    assert_eq!(rt; Standard::numbered(1), Some(Standard::H264));
-    assert_eq!(rt; Standard::numbered(2), Some(Standard::Vc1));
-    assert_eq!(rt; Standard::numbered(3), None);
-    assert_eq!(rt; Standard::Hevc.number(), 0);
-    assert_eq!(rt; Standard::H264.number(), 1);
-    assert_eq!(rt; Standard::Vc1.number(), 2);
+    assert_eq!(rt; Standard::try_from(0), Ok(Standard::Hevc));
+    assert_eq!(rt; Standard::try_from(1), Ok(Standard::H264));
+    assert_eq!(rt; Standard::try_from(2), Ok(Standard::Vc1));
+    assert_eq!(rt; Standard::try_from(3), Err(UnknownNumber(3)));
+    assert_eq!(rt; u32::from(Standard::Hevc), 0);
+    assert_eq!(rt; u32::from(Standard::H264), 1);
+    assert_eq!(rt; u32::from(Standard::Vc1), 2);
 }
 
 #[test]
@@ -430,7 +431,7 @@ fn a_written_setting_is_read_back(rt: HostRuntime) -> Result<(), Fail> {
     else {
         return Err(Fail::new("no setting was read"));
     };
-    assert_eq!(rt; Standard::named(name), Some(Standard::Vc1));
+    assert_eq!(rt; Standard::try_from(name), Ok(Standard::Vc1));
     assert_eq!(rt; read_number(step), Ok(65535));
     assert_eq!(rt; read_number(tolerance), Ok(255));
     assert_eq!(rt; rest, b".....".as_slice());
