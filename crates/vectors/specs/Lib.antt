@@ -1,3 +1,2 @@
 pub mod Agreement
 pub mod Counts
-pub mod Names

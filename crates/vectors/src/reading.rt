@@ -1,10 +1,12 @@
 // Cases read from text: a standard's name, a side, a step, the nonzero levels as `position:level` with rising positions,
 // `|`, and side times side rebuilt values by rows or the single field `none`. Fields are parted by one tab.
-ghost use Rattle.std.specs.Prelude.{◌≡◌, true, pos, IfOk, ◌≢◌};
+ghost use Rattle.std.specs.Prelude.{◌≡◌, true, pos, IfOk, ◌≢◌, vec_items};
+ghost use Rattle.std.specs.Option.{option_map};
 ghost use Rattle.transform.specs.Meaning.{sided};
 ghost use Rattle.vectors.specs.Agreement.{Fills, Whole};
 
-use crate::case::{Case, Expected, Standard};
+use crate::case::Case;
+use film::{Standard, UnknownName};
 use std::alloc::{AllocError, AllocFailed, Global};
 use std::num::ParseIntError;
 use transform::is_side;
@@ -36,6 +38,12 @@ impl From<ParseIntError> for Misread {
     }
 }
 
+impl From<UnknownName> for Misread {
+    fn from(_e: UnknownName) -> Misread {
+        Misread::Form
+    }
+}
+
 // A position and a nonzero level.
 fn read_pair(text: &str) -> Result<(usize, i32), Misread>
     ensures { IfOk result (λ p. p.1 ≢ pos 0) }
@@ -63,24 +71,22 @@ fn read_levels(pairs: &str, levels: &mut [i32]) -> Result<(), Misread> {
 }
 
 fn read_values(heap: Global, text: &str) -> Result<Vec<i32>, Misread> {
-    let mut values = Vec::new(heap);
-    for value in text.split('\t') {
-        values.push(value.parse::<i32>()?)?;
-    }
-    Ok(values)
+    text.split('\t')
+        .map(|value| -> Result<i32, Misread> { Ok(value.parse::<i32>()?) })
+        .try_collect(heap)
 }
 
-fn read_expected(heap: Global, area: usize, text: &str) -> Result<Expected, Misread>
-    ensures { IfOk result (λ e. Fills area e) }
+fn read_expected(heap: Global, area: usize, text: &str) -> Result<Option<Vec<i32>>, Misread>
+    ensures { IfOk result (λ e. Fills area (option_map vec_items e)) }
 {
     if text == "none" {
-        return Ok(Expected::Nothing);
+        return Ok(None);
     }
     let values = read_values(heap, text)?;
     if values.len() != area {
         return Err(Misread::Form);
     }
-    Ok(Expected::Block(values))
+    Ok(Some(values))
 }
 
 fn read_side(text: &str) -> Result<usize, Misread>
@@ -111,7 +117,7 @@ pub(crate) fn read_case(heap: Global, line: &str) -> Result<Case, Misread>
     let (given, expected) = line.split_once("\t|\t").ok_or(Misread::Form)?;
     let (name, rest) = given.split_once('\t').ok_or(Misread::Form)?;
     let (side, rest) = rest.split_once('\t').ok_or(Misread::Form)?;
-    let standard = Standard::named(name).ok_or(Misread::Form)?;
+    let standard = Standard::try_from(name.as_bytes())?;
     let side = read_side(side)?;
     let mut levels = vec![in heap; 0; side * side]?;
     let step = read_step(rest, levels.as_mut_slice())?;
@@ -153,7 +159,7 @@ mod tests {
     fn a_case_without_pairs_is_read(rt: HostRuntime) -> Result<(), Fail> {
         let case = read_case(rt.alloc(), "VC1\t4\t7\t|\tnone")?;
         assert!(rt; case.step == 7 && case.levels.len() == 16);
-        assert!(rt; matches!(case.expected, Expected::Nothing));
+        assert!(rt; case.expected.is_none());
         Ok(())
     }
 }
