@@ -19,7 +19,7 @@ pub use cosine::MatrixSums;
 use exact::nearest;
 pub use kernel::Kernel;
 use passes::{choose_block, rebuild_block};
-use transform::{Fault, Transform};
+use transform::{Fault, Mode, Transform};
 
 // The number of HEVC among the standards.
 pub const STANDARD: u32 = 0;
@@ -43,41 +43,38 @@ impl<K: Kernel> Transform for Hevc<K> {
 
     ghost sound = { λ t standard. only_sound 0 _ standard (rules_sound _ _ (K.Kernel.entries t.kernel)) };
 
-    fn is_usable(&self, standard: u32, side: usize, step: u32) -> bool {
-        standard == STANDARD && self.kernel.serves(side) && step <= 51
+    fn is_usable(&self, mode: Mode) -> bool {
+        mode.standard == STANDARD && self.kernel.serves(mode.side) && mode.step <= 51
     }
 
-    fn choose_legal(
-        &self,
-        _standard: u32,
-        side: usize,
-        step: u32,
-        residual: &[i32],
-        levels: &mut [i32],
-    ) {
-        match side {
-            4 => choose_block::<K, 16>(&self.kernel, side, step, residual, levels),
-            8 => choose_block::<K, 64>(&self.kernel, side, step, residual, levels),
-            16 => choose_block::<K, 256>(&self.kernel, side, step, residual, levels),
-            _ => choose_block::<K, 1024>(&self.kernel, side, step, residual, levels),
+    fn choose_legal(&self, mode: Mode, residual: &[i32], levels: &mut [i32]) {
+        match mode.side {
+            4 => choose_block::<K, 16>(&self.kernel, mode.side, mode.step, residual, levels),
+            8 => choose_block::<K, 64>(&self.kernel, mode.side, mode.step, residual, levels),
+            16 => choose_block::<K, 256>(&self.kernel, mode.side, mode.step, residual, levels),
+            _ => choose_block::<K, 1024>(&self.kernel, mode.side, mode.step, residual, levels),
         }
     }
 
-    fn rebuild_legal(
-        &self,
-        _standard: u32,
-        side: usize,
-        step: u32,
-        levels: &[i32],
-        residual: &mut [i32],
-    ) -> bool {
-        match side {
-            4 => rebuild_block::<K, 16>(&self.kernel, side, step, levels, residual),
-            8 => rebuild_block::<K, 64>(&self.kernel, side, step, levels, residual),
-            16 => rebuild_block::<K, 256>(&self.kernel, side, step, levels, residual),
-            _ => rebuild_block::<K, 1024>(&self.kernel, side, step, levels, residual),
+    fn rebuild_legal(&self, mode: Mode, levels: &[i32], residual: &mut [i32]) -> Option<()> {
+        match mode.side {
+            4 => rebuild_block::<K, 16>(&self.kernel, mode.side, mode.step, levels, residual),
+            8 => rebuild_block::<K, 64>(&self.kernel, mode.side, mode.step, levels, residual),
+            16 => rebuild_block::<K, 256>(&self.kernel, mode.side, mode.step, levels, residual),
+            _ => rebuild_block::<K, 1024>(&self.kernel, mode.side, mode.step, levels, residual),
         }
-        true
+        Some(())
+    }
+}
+
+// HEVC's mode at a side and a step.
+fn mode(side: usize, step: u32) -> Mode
+    ensures { result ≡ record { standard = 0; side = side; step = step } }
+{
+    Mode {
+        standard: STANDARD,
+        side,
+        step,
     }
 }
 
@@ -86,7 +83,7 @@ pub fn choose(side: usize, step: u32, residual: &[i32], levels: &mut [i32]) -> R
     ensures answer { result ≡ answered (choosing hevc side step residual.now (length levels.old)) }
     ensures block { levels.new ≡ result_unwrap_or (choosing hevc side step residual.now (length levels.old)) levels.old }
 {
-    Hevc::new(MatrixSums).choose(STANDARD, side, step, residual, levels)
+    Hevc::new(MatrixSums).choose(mode(side, step), residual, levels)
 }
 
 // The residual block that HEVC rebuilds from levels, by plain matrix sums. A refusal leaves `residual` as it was.
@@ -94,7 +91,7 @@ pub fn rebuild(side: usize, step: u32, levels: &[i32], residual: &mut [i32]) -> 
     ensures answer { result ≡ answered (rebuilding hevc 0 side step levels.now (length residual.old)) }
     ensures block { residual.new ≡ result_unwrap_or (rebuilding hevc 0 side step levels.now (length residual.old)) residual.old }
 {
-    Hevc::new(MatrixSums).rebuild(STANDARD, side, step, levels, residual)
+    Hevc::new(MatrixSums).rebuild(mode(side, step), levels, residual)
 }
 
 // The first residual rebuilt at side 4 and step 4 where only the first level is set.
