@@ -15,7 +15,7 @@ use transform::{Fault, Transform};
 
 // Whether an answer of `rebuild`, with the block that it left, is what a case expects.
 fn agrees(answer: Result<(), Fault>, rebuilt: &[i32], expected: Option<&[i32]>) -> bool
-    ensures { Decides result (Agrees (outcome answer rebuilt.now) (option_copied expected)) }
+    ensures { Decides result (Agrees (outcome answer rebuilt.now) (option_copied expected.entry)) }
 {
     match (answer, expected) {
         (Ok(()), Some(values)) => rebuilt == values,
