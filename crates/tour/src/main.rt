@@ -2,13 +2,16 @@
 // what is refused.
 #![tactic(auto)]
 
+ghost use Rattle.std.specs.Prelude.{◌≡◌};
+
 mod refusals;
 mod steps;
 
 use hevc::{Hevc, MatrixSums};
 use refusals::show_refusals;
 use std::io;
-use steps::{print_block, show_step};
+use steps::{Rows, show_step};
+use transform::Mode;
 
 // The side of the block that is shown.
 const SIDE: usize = 8;
@@ -25,6 +28,17 @@ const EDGE: [[i32; SIDE]; SIDE] = [
     [-38, -43, -50, -57, -61, -69, -74, 22],
 ];
 
+// How the block is coded at a step.
+fn at_step(step: u32) -> Mode
+    ensures { result ≡ record { standard = 0; side = 8; step = step } }
+{
+    Mode {
+        standard: hevc::STANDARD,
+        side: SIDE,
+        step,
+    }
+}
+
 // The edge's rows, one after the other.
 fn edge() -> [i32; 64] {
     let mut block = [0; 64];
@@ -37,8 +51,7 @@ fn edge() -> [i32; 64] {
 fn main(rt: HostRuntime) -> io::Result<()> {
     let transform = Hevc::new(MatrixSums);
     let block = edge();
-    println!(rt; "The residual block")?;
-    print_block(&rt, &block)?;
+    print!(rt; "The residual block\n{}", Rows(&block))?;
     show_step(&rt, &transform, 22, &block)?;
     show_step(&rt, &transform, 37, &block)?;
     show_refusals(&rt, &transform, block)

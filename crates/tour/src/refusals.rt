@@ -1,5 +1,5 @@
 // What a transform refuses, each time by a number, and with the levels left as they were.
-use crate::SIDE;
+use crate::at_step;
 use std::io;
 use transform::Transform;
 
@@ -15,7 +15,7 @@ fn show_refusal<T: Transform>(
     residual: &[i32],
 ) -> io::Result<()> {
     let mut levels = UNTOUCHED;
-    match transform.choose(hevc::STANDARD, SIDE, step, residual, &mut levels) {
+    match transform.choose(at_step(step), residual, &mut levels) {
         Ok(()) => println!(rt; "{what}: not refused"),
         Err(fault) => {
             let number = fault.number();

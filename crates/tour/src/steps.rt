@@ -3,19 +3,24 @@ ghost use Rattle.std.specs.Prelude.{min, length, IfOk};
 ghost use Rattle.tour.specs.Distances.{Greatest};
 ghost use Rattle.tour.specs.Coding.{Codes};
 
-use crate::SIDE;
-use std::io;
+use crate::{SIDE, at_step};
+use std::{fmt, io};
 use transform::{Fault, Transform};
 
-// A block by rows.
-pub(crate) fn print_block(rt: &impl Print, block: &[i32]) -> io::Result<()> {
-    for row in block.chunks(SIDE) {
-        for x in row {
-            print!(rt; "{x:>5}")?;
+// A block that is written by rows.
+#[derive(Clone, Copy)]
+pub(crate) struct Rows<'a>(pub(crate) &'a [i32]);
+
+impl fmt::Display for Rows<'_> {
+    fn fmt<W: fmt::Write>(&self, f: &mut fmt::Formatter<W>) -> fmt::Result {
+        for row in self.0.chunks(SIDE) {
+            for x in row {
+                write!(f, "{x:>5}")?;
+            }
+            writeln!(f)?;
         }
-        println!(rt; "")?;
+        Ok(())
     }
-    Ok(())
 }
 
 // The greatest distance between two numbers at one place of two blocks.
@@ -23,8 +28,8 @@ fn greatest_distance(a: &[i32], b: &[i32]) -> u32
     ensures { Greatest (min (length a.now) (length b.now)) a.now b.now result }
 {
     let mut greatest = 0;
-    for i in 0..a.len().min(b.len()) {
-        greatest = a[i].abs_diff(b[i]).max(greatest);
+    for (x, y) in a.iter().zip(b) {
+        greatest = x.abs_diff(*y).max(greatest);
     }
     greatest
 }
@@ -41,16 +46,14 @@ fn code<T: Transform>(transform: &T, step: u32, block: &[i32]) -> Result<Coded, 
 {
     let mut levels = [0; 64];
     let mut rebuilt = [0; 64];
-    transform.choose(hevc::STANDARD, SIDE, step, block, &mut levels)?;
-    transform.rebuild(hevc::STANDARD, SIDE, step, &levels, &mut rebuilt)?;
+    transform.choose(at_step(step), block, &mut levels)?;
+    transform.rebuild(at_step(step), &levels, &mut rebuilt)?;
     Ok(Coded { levels, rebuilt })
 }
 
 fn print_coded(rt: &impl Print, step: u32, block: &[i32], coded: &Coded) -> io::Result<()> {
-    println!(rt; "\nLevels at step {step}")?;
-    print_block(rt, &coded.levels)?;
-    println!(rt; "\nRebuilt at step {step}")?;
-    print_block(rt, &coded.rebuilt)?;
+    print!(rt; "\nLevels at step {step}\n{}", Rows(&coded.levels))?;
+    print!(rt; "\nRebuilt at step {step}\n{}", Rows(&coded.rebuilt))?;
     let distance = greatest_distance(block, &coded.rebuilt);
     println!(rt; "Greatest distance from the block: {distance}")
 }
