@@ -1,27 +1,18 @@
 -- Texts written one after another. Assumes nothing.
-use Rattle.std.proofs.Common.{◌≡◌, ℕ, zero, suc, ◌+◌, ◌/◌, ◌%◌, ◌^◌, ◌<◌, ◌≤◌, true, List, [], ◌∷◌, ◌++◌, map, length, get_or, take, drop, set, ℤ, pos, negsuc, nat_abs, decimal, sym, refl, ap, ◌∙◌, subst, add-zero, add_assoc, add-one, arith, w32, SFits, to_z, of_z}
-use lib.Signed.{lt_z}
+use Rattle.std.proofs.Common.{◌≡◌, ℕ, zero, suc, ◌+◌, ◌<◌, ◌≤◌, List, [], ◌∷◌, ◌++◌, map, length, get_or, take, drop, set, ℤ, pos, negsuc, decimal, sym, refl, ap, ◌∙◌, subst, add-zero, add_assoc, add-one, arith, w32, SFits, to_z, of_z}
 use borrow.Rule.Slice.PartMut.{put_mid}
 use Rattle.std.specs.Fmt.{signed_decimal}
-use Rattle.std.proofs.lemmas.List.{length-take, length-append, take_at, drop_at, drop-drop, set_split, append_assoc, append-nil, take-append-drop, take_more, map-append, length-take-le, length-drop}
+use Rattle.std.proofs.lemmas.List.{length-take, length-append, take_at, drop_at, drop-drop, set_split, append_assoc, append-nil, take-append-drop, take_more, length-drop}
 use Rattle.std.proofs.lemmas.List.Folds.{length-flat_map-take}
 use Rattle.std.proofs.lemmas.List.FromFn.{length-enumerate_from, get_or-enumerate_from}
 use Rattle.std.proofs.lemmas.Grind.{flat_map-append}
 use Rattle.std.specs.List.{flat_map, enumerate_from}
 use Rattle.std.proofs.lemmas.Int.{to_z-of_z}
-use Rattle.std.proofs.lemmas.Bool.{ltb-true}
-use Rattle.std.proofs.lemmas.Fmt.{decimal_digit, decimal_step}
 use Rattle.film.specs.Fields.{tabbed}
-use Rattle.film.specs.Leaves.{Pair, nonzeros, pair_fields}
-use Rattle.film.specs.declared.setting.Setting.{Setting}
-use Rattle.film.specs.declared.standard.Standard.{Standard}
-use Rattle.film.specs.declared.standard.Standard.TheVariants.{Hevc, H264, Vc1}
-use Rattle.film.specs.Standards.{name_of}
+use Rattle.film.specs.Leaves.{nonzeros, pair_fields}
 use Rattle.film.specs.declared.cursor.Cursor.{Cursor}
 use Rattle.film.specs.declared.field.Field.{Field}
-use Rattle.film.specs.declared.field.Field.TheVariants.{Name, Number}
-use Rattle.film.specs.Texts.{Entry, square, split, levels, raw, of_setting, text_of, field_text, tabbed_text, line_text, overwritten, cell_text, Put, HasRoom, Puts}
-use Rattle.film.proofs.Splits.{tabbed_end, tabbed_append}
+use Rattle.film.specs.Texts.{Entry, split, levels, raw, text_of, field_text, tabbed_text, line_text, overwritten, cell_text, Put, HasRoom, Puts}
 
 -- what stands before the end of a written text, and what after it
 take_overwritten : (at : ℕ) (t xs : List ℕ) → at + length t ≤ length xs → take (at + length t) (overwritten at t xs) ≡ take at xs ++ t
@@ -124,20 +115,6 @@ pub text_line : (letter : ℕ) (fs : List Field) → line_text letter fs ≡ (le
 text_line letter fs = ap (λ t. letter ∷ t) (tabbed_parts field_text fs (10 ∷ []))
 
 -- ---- the text of each line, as it is written
-abbrev pub setting_fields : Setting → List Field
-setting_fields k = Name k.standard ∷ Number k.step ∷ Number k.tolerance ∷ []
-
-abbrev pub square_fields : ℕ → ℕ → List Field
-square_fields column row = Number column ∷ Number row ∷ []
-
-pub text_setting : (k : Setting) → text_of (of_setting k) ≡ line_text 77 (setting_fields k)
-unfolding text_of
-text_setting k = refl
-
-pub text_square : (column row : ℕ) → text_of (square column row) ≡ line_text 81 (square_fields column row)
-unfolding text_of
-text_square column row = refl
-
 pub text_split : text_of split ≡ line_text 83 []
 unfolding text_of
 text_split = refl

@@ -1,5 +1,4 @@
 -- What each writer promises of its line, while a cursor still holds the memory. Assumes nothing.
-use Rattle.std.proofs.Common.{length, ap, arith}
 use Rattle.film.specs.declared.cursor.Cursor.{Cursor}
 use Rattle.film.specs.Texts.{Entry, text_of, Put, HasRoom, Puts}
 use Rattle.film.specs.Films.{ReadsAt, ReadsBack}

@@ -10,7 +10,6 @@ mod line;
 mod number;
 mod reading;
 mod setting;
-mod settings;
 mod standard;
 #[cfg(test)]
 mod tests;

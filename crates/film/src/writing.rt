@@ -3,7 +3,8 @@
 // bounds `few` are there so that lengths can be added.
 ghost use Rattle.std.specs.Prelude.{◌≡◌, ◌+◌, ◌*◌, ◌≤◌, true, length, flat_map, sum_by};
 ghost use Rattle.transform.specs.Meaning.{shorts};
-ghost use Rattle.film.specs.Texts.{square, split, levels, raw, text_of, of_setting, cell_text, tabbed_text, widest, Put};
+ghost use Rattle.film.specs.Fields.{letter_m, letter_q};
+ghost use Rattle.film.specs.Texts.{square, split, levels, raw, text_of, of_setting, cell_text, tabbed_text, line_text, widest, Put};
 ghost use Rattle.film.specs.Films.{ReadsBack, ReadsAt};
 
 use crate::cursor::Cursor;
@@ -16,11 +17,7 @@ pub fn setting_len(setting: Setting) -> usize
     ensures is { result ≡ length (text_of (of_setting setting)) }
     ensures few { result ≤ 30 }
 {
-    line_len(&[
-        Field::Name(setting.standard),
-        Field::Number(setting.step),
-        Field::Number(setting.tolerance),
-    ])
+    line_len(&setting_fields(setting))
 }
 
 // Writes `M name step tolerance`.
@@ -31,14 +28,7 @@ pub fn write_setting(setting: Setting, out: &mut [u8], at: usize) -> usize
     ensures found { ReadsAt (of_setting setting) at result out.new }
 {
     let mut cursor = Cursor { out, at };
-    cursor.put_line(
-        b'M',
-        &[
-            Field::Name(setting.standard),
-            Field::Number(setting.step),
-            Field::Number(setting.tolerance),
-        ],
-    );
+    cursor.put_line(b'M', &setting_fields(setting));
     cursor.at
 }
 
@@ -47,7 +37,7 @@ pub fn square_len(column: u16, row: u16) -> usize
     ensures is { result ≡ length (text_of (square column row)) }
     ensures few { result ≤ 30 }
 {
-    line_len(&[Field::Number(column), Field::Number(row)])
+    line_len(&square_fields(column, row))
 }
 
 // Writes `Q column row`.
@@ -58,7 +48,7 @@ pub fn write_square(column: u16, row: u16, out: &mut [u8], at: usize) -> usize
     ensures found { ReadsAt (square column row) at result out.new }
 {
     let mut cursor = Cursor { out, at };
-    cursor.put_line(b'Q', &[Field::Number(column), Field::Number(row)]);
+    cursor.put_line(b'Q', &square_fields(column, row));
     cursor.at
 }
 
@@ -88,8 +78,8 @@ pub fn levels_len(block: &[i32]) -> usize
     ensures few { result ≤ 2 + 23 * length block.now }
 {
     let mut size = 2;
-    for (i, level) in block.iter().enumerate() {
-        size += cell_len(i as u16, *level);
+    for (i, &level) in block.iter().enumerate() {
+        size += cell_len(i as u16, level);
     }
     size
 }
@@ -105,8 +95,8 @@ pub fn write_levels(block: &[i32], out: &mut [u8], at: usize) -> usize
 {
     let mut cursor = Cursor { out, at };
     cursor.put(b'T');
-    for (i, level) in block.iter().enumerate() {
-        cursor.put_cell(i as u16, *level);
+    for (i, &level) in block.iter().enumerate() {
+        cursor.put_cell(i as u16, level);
     }
     cursor.put(NEWLINE);
     cursor.at
@@ -119,8 +109,8 @@ pub fn samples_len(samples: &[u8]) -> usize
     ensures few { result ≤ 2 + 11 * length samples.now }
 {
     let mut size = 2;
-    for sample in samples {
-        size += Field::Number(u16::from(*sample)).len();
+    for &sample in samples {
+        size += Field::Number(sample.into()).len();
     }
     size
 }
@@ -134,11 +124,31 @@ pub fn write_samples(samples: &[u8], out: &mut [u8], at: usize) -> usize
 {
     let mut cursor = Cursor { out, at };
     cursor.put(b'R');
-    for sample in samples {
-        cursor.put_field(Field::Number(u16::from(*sample)));
+    for &sample in samples {
+        cursor.put_field(Field::Number(sample.into()));
     }
     cursor.put(NEWLINE);
     cursor.at
+}
+
+// The fields of a setting's line.
+fn setting_fields(setting: Setting) -> [Field; 3]
+    ensures text { text_of (of_setting setting) ≡ line_text letter_m result }
+    ensures few { sum_by widest result ≤ 28 }
+{
+    [
+        Field::Name(setting.standard),
+        Field::Number(setting.step),
+        Field::Number(setting.tolerance),
+    ]
+}
+
+// The fields of the line that opens a square.
+fn square_fields(column: u16, row: u16) -> [Field; 2]
+    ensures text { text_of (square column row) ≡ line_text letter_q result }
+    ensures few { sum_by widest result ≤ 28 }
+{
+    [Field::Number(column), Field::Number(row)]
 }
 
 // How long the line of these fields is.

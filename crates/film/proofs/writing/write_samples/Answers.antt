@@ -1,4 +1,4 @@
-use Rattle.std.proofs.Common.{◌≡◌, ◌∷◌, length, ◌≤◌, decimal, sym, ap, arith, rules}
+use Rattle.std.proofs.Common.{◌≤◌, sym, ap, arith, rules}
 use Rattle.std.specs.List.{flat_map}
 use Rattle.std.proofs.ByRecursion.{All-from_get_or}
 use Rattle.std.proofs.lemmas.List.{take_all}
@@ -13,13 +13,13 @@ put-requires c = room_first _ _ (room_as (text_raw c.args.samples.now) (record {
 pub put_field-requires : goal.put_field-requires
 put_field-requires c =
     let ss = c.args.samples.now in
-    room_as (ap sample_text (sym c.from.ensures))
+    room_as (ap sample_text (sym c.into.ensures))
     (parts_room sample_text ss c.loop-sample.sample-index 0 c.loop-sample-test.true c.loop-sample.invariant (line_room _ c.put.ensures (room_as (text_raw ss) (record { room = c.requires }))))
 
 pub loop-sample-preserved : goal.loop-sample-preserved
 loop-sample-preserved c =
     let ss = c.args.samples.now in
-    parts_then sample_text ss c.loop-sample.sample-index 0 c.loop-sample-test.true c.loop-sample.invariant (puts_as (ap sample_text c.from.ensures) c.put_field.ensures)
+    parts_then sample_text ss c.loop-sample.sample-index 0 c.loop-sample-test.true c.loop-sample.invariant (puts_as (ap sample_text c.into.ensures) c.put_field.ensures)
     (line_room _ c.put.ensures (room_as (text_raw ss) (record { room = c.requires })))
 
 pub put-requires-2 : goal.put-requires-2

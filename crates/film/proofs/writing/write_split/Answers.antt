@@ -1,11 +1,11 @@
-use Rattle.std.proofs.Common.{length, sym, ap, arith, rules}
+use Rattle.std.proofs.Common.{sym, rules}
 use Rattle.film.specs.Texts.{split}
-use Rattle.film.proofs.Writes.{text_split, puts_as}
+use Rattle.film.proofs.Writes.{text_split, room_as, puts_as}
 use Rattle.film.proofs.Written.{IsWritten, is_written}
 use Rattle.film.proofs.writing.write_split.Goals as goal
 
 pub put_line-requires : goal.put_line-requires
-put_line-requires c = record { room = omega (arith, ap length text_split, c.requires) }
+put_line-requires c = room_as text_split (record { room = c.requires })
 
 pub returns : goal.returns
 returns c =
