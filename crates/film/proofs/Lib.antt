@@ -6,3 +6,4 @@ pub mod Pairs
 pub mod Samples
 pub mod Trips
 pub mod Writes
+pub mod Written

@@ -1,20 +1,18 @@
 -- Texts written one after another. Assumes nothing.
-use Rattle.std.proofs.Common.{◌≡◌, ℕ, zero, suc, ◌+◌, ◌/◌, ◌%◌, ◌^◌, ◌<◌, ◌≤◌, true, List, [], ◌∷◌, ◌++◌, map, length, get_or, take, drop, set, ℤ, pos, negsuc, nat_abs, decimal, sym, refl, ap, ◌∙◌, subst, add-zero, add_assoc, add-one, arith, w32, SFits, to_z, of_z}
-use lib.Signed.{lt_z}
+use Rattle.std.proofs.Common.{◌≡◌, ℕ, zero, suc, ◌+◌, ◌<◌, ◌≤◌, List, [], ◌∷◌, ◌++◌, map, length, get_or, take, drop, set, ℤ, pos, negsuc, decimal, sym, refl, ap, ◌∙◌, subst, add-zero, add_assoc, add-one, arith, w32, SFits, to_z, of_z}
 use borrow.Rule.Slice.PartMut.{put_mid}
 use Rattle.std.specs.Fmt.{signed_decimal}
-use Rattle.std.proofs.lemmas.List.{length-take, length-append, take_at, drop_at, drop-drop, set_split, append_assoc, append-nil, take-append-drop, take_more, map-append, length-take-le}
+use Rattle.std.proofs.lemmas.List.{length-take, length-append, take_at, drop_at, drop-drop, set_split, append_assoc, append-nil, take-append-drop, take_more, length-drop}
+use Rattle.std.proofs.lemmas.List.Folds.{length-flat_map-take}
+use Rattle.std.proofs.lemmas.List.FromFn.{length-enumerate_from, get_or-enumerate_from}
+use Rattle.std.proofs.lemmas.Grind.{flat_map-append}
+use Rattle.std.specs.List.{flat_map, enumerate_from}
 use Rattle.std.proofs.lemmas.Int.{to_z-of_z}
-use Rattle.std.proofs.lemmas.Bool.{ltb-true}
-use Rattle.std.proofs.lemmas.Fmt.{decimal_digit, decimal_step}
 use Rattle.film.specs.Fields.{tabbed}
-use Rattle.film.specs.Leaves.{Pair, nonzeros, pair_fields}
-use Rattle.film.specs.declared.setting.Setting.{Setting}
-use Rattle.film.specs.declared.standard.Standard.{Standard}
-use Rattle.film.specs.declared.standard.Standard.TheVariants.{Hevc, H264, Vc1}
-use Rattle.film.specs.Standards.{name_of}
-use Rattle.film.specs.Texts.{square, split, levels, raw, of_setting, text_of, overwritten, cell_text, Put}
-use Rattle.film.proofs.Splits.{tabbed_end, tabbed_append}
+use Rattle.film.specs.Leaves.{nonzeros, pair_fields}
+use Rattle.film.specs.declared.cursor.Cursor.{Cursor}
+use Rattle.film.specs.declared.field.Field.{Field}
+use Rattle.film.specs.Texts.{Entry, split, levels, raw, text_of, field_text, tabbed_text, line_text, overwritten, cell_text, Put, HasRoom, Puts}
 
 -- what stands before the end of a written text, and what after it
 take_overwritten : (at : ℕ) (t xs : List ℕ) → at + length t ≤ length xs → take (at + length t) (overwritten at t xs) ≡ take at xs ++ t
@@ -28,6 +26,9 @@ drop_overwritten at t xs n h =
     sym (drop-drop n (at + length t) (overwritten at t xs)) ∙
     ap (drop n) (ap (drop (at + length t)) (sym e) ∙ drop_at (take at xs ++ t) (drop (at + length t) xs) (at + length t) (simp (length-append, length-take) (omega arith))) ∙
     drop-drop n (at + length t) xs
+
+length_overwritten : (at : ℕ) (t xs : List ℕ) → at + length t ≤ length xs → length (overwritten at t xs) ≡ length xs
+length_overwritten at t xs h = simp (length-append, length-take, length-drop) (omega arith)
 
 overwritten_twice : (at : ℕ) (a b xs : List ℕ) → at + length a ≤ length xs → overwritten (at + length a) b (overwritten at a xs) ≡ overwritten at (a ++ b) xs
 overwritten_twice at a b xs h =
@@ -53,136 +54,111 @@ put_then {at} {m} {r} {a} {b} {xs} {ys} {zs} p q h = record {
 pub put_as : {at r : ℕ} {a b xs ys : List ℕ} → a ≡ b → Put at a xs r ys → Put at b xs r ys
 put_as {at} {r} {a} {b} {xs} {ys} e p = subst (λ t. Put at t xs r ys) e p
 
--- the digits of a number
-pub len_digit : (n : ℕ) → n < 10 → length (decimal n) ≡ 1
-len_digit n h = ap length (decimal_digit n h)
+-- a cursor's texts one after another
+pub room_then : {a b : List ℕ} {x y : Cursor} → Puts a x y → HasRoom (a ++ b) x → HasRoom b y
+room_then {a} {b} {x} {y} p h = record { room = omega (arith, p.put.next, h.room, length-append a b, ap length p.put.text, length_overwritten x.at a x.out.now (omega (arith, h.room, length-append a b))) }
 
-pub len_step : (n : ℕ) → 10 ≤ n → n < 2 ^ 64 → length (decimal n) ≡ length (decimal (n / 10)) + 1
-len_step n h k = ap length (decimal_step n h k) ∙ length-append (decimal (n / 10)) _
+pub puts_then : {a b : List ℕ} {x y z : Cursor} → Puts a x y → Puts b y z → HasRoom (a ++ b) x → Puts (a ++ b) x z
+puts_then {a} {b} {x} {y} {z} p q h = record {
+  memory = q.memory ∙ p.memory;
+  put = put_then p.put q.put (omega (arith, h.room, length-append a b));
+}
 
-pub one_digit : (n : ℕ) → n < 10 → (48 + n % 10) ∷ [] ≡ decimal n
-one_digit n h = let m : n % 10 ≡ n = omega arith in ap (λ d. (48 + d) ∷ []) m ∙ sym (decimal_digit n h)
+-- the same text by another name
+pub puts_as : {a b : List ℕ} {x y : Cursor} → a ≡ b → Puts a x y → Puts b x y
+puts_as {a} {b} {x} {y} e p = subst (λ t. Puts t x y) e p
 
--- signs, of a number as the checker reads it
-minus_is : (z : ℤ) (n : ℕ) → lt_z z (pos 0) ≡ true → n ≡ nat_abs z → 45 ∷ decimal n ≡ signed_decimal z
-minus_is (pos k) n h e = absurd (omega (arith, ltb-true k 0 h))
-minus_is (negsuc k) n h e = ap (λ m. 45 ∷ decimal m) e
+pub room_as : {a b : List ℕ} {x : Cursor} → a ≡ b → HasRoom a x → HasRoom b x
+room_as {a} {b} {x} e h = subst (λ t. HasRoom t x) e h
 
-pub signed_minus : (z : ℤ) (n : ℕ) → SFits w32 z → lt_z (to_z w32 (of_z w32 z)) (pos 0) ≡ true → n ≡ nat_abs (to_z w32 (of_z w32 z)) → 45 ∷ decimal n ≡ signed_decimal z
-signed_minus z n f h e = let c = to_z-of_z w32 z f in minus_is z n (sym (ap (λ y. lt_z y (pos 0)) c) ∙ h) (e ∙ ap nat_abs c)
+-- a sample as a part of its line, and a cell at its place
+abbrev pub sample_text : ℕ → List ℕ
+sample_text s = 9 ∷ decimal s
 
--- a cell without a level, and with one
-pub cell_none : (i : ℕ) (z : ℤ) → SFits w32 z → of_z w32 z ≡ 0 → cell_text i z ≡ []
-cell_none i z f e = ap (cell_text i) (sym (to_z-of_z w32 z f) ∙ ap (to_z w32) e)
+abbrev pub placed_text : ℕ × ℤ → List ℕ
+placed_text p = cell_text p.0 p.1
 
-cell_is : (i : ℕ) (z : ℤ) → (of_z w32 z ≡ 0 → ⊥) → cell_text i z ≡ (9 ∷ decimal i) ++ ((9 ∷ []) ++ signed_decimal z)
-cell_is i (pos zero) h = absurd (h refl)
-cell_is i (pos (suc n)) h = ap (λ t. 9 ∷ (decimal i ++ (9 ∷ t))) (append-nil (signed_decimal (pos (suc n))))
-cell_is i (negsuc n) h = ap (λ t. 9 ∷ (decimal i ++ (9 ∷ t))) (append-nil (signed_decimal (negsuc n)))
+-- fields put together, one part for each
+pub tabbed_parts : {X : Type 0} (t : X → List ℕ) (xs : List X) (end : List ℕ) → tabbed (map t xs) end ≡ flat_map (λ x. 9 ∷ t x) xs ++ end
+tabbed_parts t [] end = refl
+tabbed_parts t (x ∷ xs) end = ap (λ ys. 9 ∷ (t x ++ ys)) (tabbed_parts t xs end) ∙ ap (λ ys. 9 ∷ ys) (sym (append_assoc (t x) (flat_map (λ y. 9 ∷ t y) xs) end))
 
-pub cell_some : (i : ℕ) (z : ℤ) → SFits w32 z → (of_z w32 z ≡ 0 → ⊥) → cell_text i z ≡ (9 ∷ decimal i) ++ ((9 ∷ []) ++ signed_decimal (to_z w32 (of_z w32 z)))
-cell_some i z f h = cell_is i z h ∙ ap (λ y. (9 ∷ decimal i) ++ ((9 ∷ []) ++ signed_decimal y)) (sym (to_z-of_z w32 z f))
+-- one part more, and the room for it
+pub parts_more : {X : Type 0} (part : X → List ℕ) (xs : List X) (i : ℕ) (d : X) → i < length xs → flat_map part (take (i + 1) xs) ≡ flat_map part (take i xs) ++ part (get_or xs i d)
+parts_more part xs i d h =
+    ap (flat_map part) (take_more xs i d h) ∙ flat_map-append part (take i xs) (get_or xs i d ∷ []) ∙ ap (λ t. flat_map part (take i xs) ++ t) (append-nil (part (get_or xs i d)))
 
-pub cell_length : (i : ℕ) (z : ℤ) → SFits w32 z → (of_z w32 z ≡ 0 → ⊥) → length (cell_text i z) ≡ 2 + length (decimal i) + length (signed_decimal (to_z w32 (of_z w32 z)))
-cell_length i z f h = omega (arith, ap length (cell_some i z f h), length-append (9 ∷ decimal i) ((9 ∷ []) ++ signed_decimal (to_z w32 (of_z w32 z))))
+pub parts_room : {X : Type 0} (part : X → List ℕ) (xs : List X) (i : ℕ) (d : X) {x y : Cursor} → i < length xs → Puts (flat_map part (take i xs)) x y → HasRoom (flat_map part xs) x → HasRoom (part (get_or xs i d)) y
+parts_room part xs i d {x} {y} h p r =
+    room_then p (record { room = omega (arith, r.room, length-flat_map-take part xs i d h, length-append (flat_map part (take i xs)) (part (get_or xs i d))) })
 
--- one cell more
-nonzeros_append : (i : ℕ) (xs ys : List ℤ) → nonzeros i (xs ++ ys) ≡ nonzeros i xs ++ nonzeros (i + length xs) ys
-nonzeros_append i [] ys = ap (λ k. nonzeros k ys) (sym (add-zero i))
-nonzeros_append i (pos zero ∷ xs) ys = nonzeros_append (suc i) xs ys ∙ ap (λ k. nonzeros (suc i) xs ++ nonzeros k ys) (omega arith)
-nonzeros_append i (pos (suc n) ∷ xs) ys = ap (λ ps. (i, pos (suc n)) ∷ ps) (nonzeros_append (suc i) xs ys ∙ ap (λ k. nonzeros (suc i) xs ++ nonzeros k ys) (omega arith))
-nonzeros_append i (negsuc n ∷ xs) ys = ap (λ ps. (i, negsuc n) ∷ ps) (nonzeros_append (suc i) xs ys ∙ ap (λ k. nonzeros (suc i) xs ++ nonzeros k ys) (omega arith))
+pub parts_then : {X : Type 0} (part : X → List ℕ) (xs : List X) (i : ℕ) (d : X) {x y z : Cursor} → i < length xs → Puts (flat_map part (take i xs)) x y → Puts (part (get_or xs i d)) y z → HasRoom (flat_map part xs) x → Puts (flat_map part (take (i + 1) xs)) x z
+parts_then part xs i d {x} {y} {z} h p q r =
+    puts_as (sym (parts_more part xs i d h))
+    (puts_then p q (record { room = omega (arith, r.room, length-flat_map-take part xs i d h, length-append (flat_map part (take i xs)) (part (get_or xs i d))) }))
 
-pair_fields_append : (ps qs : List Pair) → pair_fields (ps ++ qs) ≡ pair_fields ps ++ pair_fields qs
-pair_fields_append [] qs = refl
-pair_fields_append (p ∷ ps) qs = ap (λ fs. decimal p.0 ∷ signed_decimal p.1 ∷ fs) (pair_fields_append ps qs)
+-- the room for the first of two texts
+pub room_first : (a b : List ℕ) {x : Cursor} → HasRoom (a ++ b) x → HasRoom a x
+room_first a b {x} h = record { room = omega (arith, h.room, length-append a b) }
 
--- the fields of a block of levels
-abbrev pub cells_text : ℕ → List ℤ → List ℕ
-cells_text i zs = tabbed (pair_fields (nonzeros i zs)) []
+-- a letter, what stands in the line, and its end
+pub line_room : {l : ℕ} (m : List ℕ) {x y : Cursor} → Puts (l ∷ []) x y → HasRoom ((l ∷ []) ++ (m ++ (10 ∷ []))) x → HasRoom m y
+line_room m p h = room_first m (10 ∷ []) (room_then p h)
 
-cells_append : (i : ℕ) (xs ys : List ℤ) → cells_text i (xs ++ ys) ≡ cells_text i xs ++ cells_text (i + length xs) ys
-cells_append i xs ys =
-    ap (λ ps. tabbed (pair_fields ps) []) (nonzeros_append i xs ys) ∙ ap (λ fs. tabbed fs []) (pair_fields_append (nonzeros i xs) (nonzeros (i + length xs) ys))
-    ∙ tabbed_append (pair_fields (nonzeros i xs)) (pair_fields (nonzeros (i + length xs) ys)) [] ∙ tabbed_end (pair_fields (nonzeros i xs)) (cells_text (i + length xs) ys)
+pub line_end : {l : ℕ} {m : List ℕ} {x y z : Cursor} → Puts (l ∷ []) x y → Puts m y z → HasRoom ((l ∷ []) ++ (m ++ (10 ∷ []))) x → HasRoom (10 ∷ []) z
+line_end p q h = room_then q (room_then p h)
 
-pub cells_more : (zs : List ℤ) (i : ℕ) → i < length zs → cells_text 0 (take (i + 1) zs) ≡ cells_text 0 (take i zs) ++ cell_text i (get_or zs i (pos 0))
-cells_more zs i h =
-    let l : 0 + length (take i zs) ≡ i = omega (arith, length-take-le i zs (omega arith)) in
-    ap (cells_text 0) (take_more zs i (pos 0) h) ∙ cells_append 0 (take i zs) (get_or zs i (pos 0) ∷ [])
-    ∙ ap (λ k. cells_text 0 (take i zs) ++ cell_text k (get_or zs i (pos 0))) l
+pub line_whole : {l : ℕ} {m : List ℕ} {x y z w : Cursor} → Puts (l ∷ []) x y → Puts m y z → Puts (10 ∷ []) z w → HasRoom ((l ∷ []) ++ (m ++ (10 ∷ []))) x → Puts ((l ∷ []) ++ (m ++ (10 ∷ []))) x w
+line_whole p q r h = puts_then p (puts_then q r (room_then p h)) h
 
-cells_front : (zs : List ℤ) (i : ℕ) → length (cells_text 0 (take i zs)) ≤ length (cells_text 0 zs)
-cells_front zs i =
-    omega (arith, ap (λ ys. length (cells_text 0 ys)) (take-append-drop i zs), ap length (cells_append 0 (take i zs) (drop i zs)), length-append (cells_text 0 (take i zs)) (cells_text (0 + length (take i zs)) (drop i zs)))
+pub text_line : (letter : ℕ) (fs : List Field) → line_text letter fs ≡ (letter ∷ []) ++ (flat_map tabbed_text fs ++ (10 ∷ []))
+text_line letter fs = ap (λ t. letter ∷ t) (tabbed_parts field_text fs (10 ∷ []))
 
-pub cells_room : (zs : List ℤ) (i : ℕ) → i < length zs → length (cells_text 0 (take i zs)) + length (cell_text i (get_or zs i (pos 0))) ≤ length (cells_text 0 zs)
-cells_room zs i h =
-    omega (arith, cells_front zs (i + 1), ap length (cells_more zs i h), length-append (cells_text 0 (take i zs)) (cell_text i (get_or zs i (pos 0))))
-
--- the fields of samples
-abbrev pub samples_text : List ℕ → List ℕ
-samples_text ss = tabbed (map decimal ss) []
-
-samples_append : (ss rs : List ℕ) → samples_text (ss ++ rs) ≡ samples_text ss ++ samples_text rs
-samples_append ss rs =
-    ap (λ fs. tabbed fs []) (map-append decimal ss rs) ∙ tabbed_append (map decimal ss) (map decimal rs) [] ∙ tabbed_end (map decimal ss) (samples_text rs)
-
-pub samples_more : (ss : List ℕ) (i : ℕ) → i < length ss → samples_text (take (i + 1) ss) ≡ samples_text (take i ss) ++ (9 ∷ decimal (get_or ss i 0))
-samples_more ss i h =
-    ap samples_text (take_more ss i 0 h) ∙ samples_append (take i ss) (get_or ss i 0 ∷ []) ∙ ap (λ t. samples_text (take i ss) ++ (9 ∷ t)) (append-nil (decimal (get_or ss i 0)))
-
-samples_front : (ss : List ℕ) (i : ℕ) → length (samples_text (take i ss)) ≤ length (samples_text ss)
-samples_front ss i =
-    omega (arith, ap (λ ys. length (samples_text ys)) (take-append-drop i ss), ap length (samples_append (take i ss) (drop i ss)), length-append (samples_text (take i ss)) (samples_text (drop i ss)))
-
-pub samples_room : (ss : List ℕ) (i : ℕ) → i < length ss → length (samples_text (take i ss)) + length (9 ∷ decimal (get_or ss i 0)) ≤ length (samples_text ss)
-samples_room ss i h =
-    omega (arith, samples_front ss (i + 1), ap length (samples_more ss i h), length-append (samples_text (take i ss)) (9 ∷ decimal (get_or ss i 0)))
-
--- ---- the text of each line, as it is written part by part
-pub text_setting : (k : Setting) → text_of (of_setting k) ≡ (77 ∷ []) ++ ((9 ∷ []) ++ (name_of k.standard ++ ((9 ∷ decimal k.step) ++ ((9 ∷ decimal k.tolerance) ++ (10 ∷ [])))))
-unfolding text_of
-text_setting k = refl
-
-pub text_square : (column row : ℕ) → text_of (square column row) ≡ (81 ∷ []) ++ ((9 ∷ decimal column) ++ ((9 ∷ decimal row) ++ (10 ∷ [])))
-unfolding text_of
-text_square column row = refl
-
-pub text_split : text_of split ≡ (83 ∷ []) ++ (10 ∷ [])
+-- ---- the text of each line, as it is written
+pub text_split : text_of split ≡ line_text 83 []
 unfolding text_of
 text_split = refl
 
-pub text_levels : (zs : List ℤ) → text_of (levels zs) ≡ (84 ∷ []) ++ (cells_text 0 zs ++ (10 ∷ []))
+pub text_raw : (ss : List ℕ) → text_of (raw ss) ≡ (82 ∷ []) ++ (flat_map sample_text ss ++ (10 ∷ []))
 unfolding text_of
-text_levels zs = ap (λ t. 84 ∷ t) (tabbed_end (pair_fields (nonzeros 0 zs)) (10 ∷ []))
+text_raw ss = ap (λ t. 82 ∷ t) (tabbed_parts decimal ss (10 ∷ []))
 
-pub text_raw : (ss : List ℕ) → text_of (raw ss) ≡ (82 ∷ []) ++ (samples_text ss ++ (10 ∷ []))
+-- the two fields of a cell before those of the cells behind it
+cell_part : (place level t parts end : List ℕ) → t ≡ parts ++ end → 9 ∷ (place ++ (9 ∷ (level ++ t))) ≡ ((9 ∷ (place ++ (9 ∷ (level ++ [])))) ++ parts) ++ end
+cell_part place level t parts end e = rw e (simp (append_assoc, append-nil))
+
+next_cell : (i : ℕ) (zs : List ℤ) (end : List ℕ) → tabbed (pair_fields (nonzeros (suc i) zs)) end ≡ tabbed (pair_fields (nonzeros (i + 1) zs)) end
+next_cell i zs end = ap (λ k. tabbed (pair_fields (nonzeros k zs)) end) (sym (add-one i))
+
+cells_parts : (i : ℕ) (zs : List ℤ) (end : List ℕ) → tabbed (pair_fields (nonzeros i zs)) end ≡ flat_map placed_text (enumerate_from i zs) ++ end
+cells_parts i [] end = refl
+cells_parts i (pos zero ∷ zs) end = next_cell i zs end ∙ cells_parts (i + 1) zs end
+cells_parts i (pos (suc n) ∷ zs) end = cell_part (decimal i) (signed_decimal (pos (suc n))) _ _ end (next_cell i zs end ∙ cells_parts (i + 1) zs end)
+cells_parts i (negsuc n ∷ zs) end = cell_part (decimal i) (signed_decimal (negsuc n)) _ _ end (next_cell i zs end ∙ cells_parts (i + 1) zs end)
+
+pub text_levels : (zs : List ℤ) → text_of (levels zs) ≡ (84 ∷ []) ++ (flat_map placed_text (enumerate_from 0 zs) ++ (10 ∷ []))
 unfolding text_of
-text_raw ss = ap (λ t. 82 ∷ t) (tabbed_end (map decimal ss) (10 ∷ []))
+text_levels zs = ap (λ t. 84 ∷ t) (cells_parts 0 zs (10 ∷ []))
 
 -- and its length
-pub length_setting : (k : Setting) → length (text_of (of_setting k)) ≡ 5 + length (name_of k.standard) + length (decimal k.step) + length (decimal k.tolerance)
-length_setting k =
-    let name = name_of k.standard in
-    let step = decimal k.step in
-    let tolerance = decimal k.tolerance in
-    omega (arith, ap length (text_setting k), length-append name ((9 ∷ step) ++ ((9 ∷ tolerance) ++ (10 ∷ []))), length-append step ((9 ∷ tolerance) ++ (10 ∷ [])), length-append tolerance (10 ∷ []))
+length_line : (letter : ℕ) (m : List ℕ) → 2 + length m ≡ length ((letter ∷ []) ++ (m ++ (10 ∷ [])))
+length_line letter m = omega (arith, length-append m (10 ∷ []))
 
-pub name_short : (k : Standard) → length (name_of k) ≤ 4
-name_short Hevc = omega arith
-name_short H264 = omega arith
-name_short Vc1 = omega arith
+pub length_fields : (e : Entry) (letter : ℕ) (fs : List Field) → text_of e ≡ line_text letter fs → 2 + length (flat_map tabbed_text fs) ≡ length (text_of e)
+length_fields e letter fs h = length_line letter (flat_map tabbed_text fs) ∙ sym (ap length (h ∙ text_line letter fs))
 
-pub length_square : (column row : ℕ) → length (text_of (square column row)) ≡ 4 + length (decimal column) + length (decimal row)
-length_square column row =
-    omega (arith, ap length (text_square column row), length-append (decimal column) ((9 ∷ decimal row) ++ (10 ∷ [])), length-append (decimal row) (10 ∷ []))
+pub length_raw : (ss : List ℕ) → 2 + length (flat_map sample_text ss) ≡ length (text_of (raw ss))
+length_raw ss = length_line 82 (flat_map sample_text ss) ∙ sym (ap length (text_raw ss))
 
-pub length_split : length (text_of split) ≡ 2
-length_split = ap length text_split
+pub length_levels : (zs : List ℤ) → 2 + length (flat_map placed_text (enumerate_from 0 zs)) ≡ length (text_of (levels zs))
+length_levels zs = length_line 84 (flat_map placed_text (enumerate_from 0 zs)) ∙ sym (ap length (text_levels zs))
 
-pub length_levels : (zs : List ℤ) → length (text_of (levels zs)) ≡ 2 + length (cells_text 0 zs)
-length_levels zs = omega (arith, ap length (text_levels zs), length-append (cells_text 0 zs) (10 ∷ []))
+-- one cell, as the loops over a block have it
+pub placed_at : (zs : List ℤ) (i : ℕ) → i < length zs → SFits w32 (get_or zs i (pos 0)) → placed_text (get_or (enumerate_from 0 zs) i (0, pos 0)) ≡ cell_text i (to_z w32 (of_z w32 (get_or zs i (pos 0))))
+placed_at zs i h f =
+    let z = get_or zs i (pos 0) in
+    let e : 0 + i ≡ i = omega arith in
+    ap placed_text (get_or-enumerate_from 0 zs i (0, pos 0) h) ∙ ap (λ k. cell_text k z) e ∙ ap (cell_text i) (sym (to_z-of_z w32 z f))
 
-pub length_raw : (ss : List ℕ) → length (text_of (raw ss)) ≡ 2 + length (samples_text ss)
-length_raw ss = omega (arith, ap length (text_raw ss), length-append (samples_text ss) (10 ∷ []))
+pub placed_length : (zs : List ℤ) (i : ℕ) → i < length zs → i < length (enumerate_from 0 zs)
+placed_length zs i h = omega (arith, length-enumerate_from 0 zs)

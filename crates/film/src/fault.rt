@@ -1,6 +1,9 @@
 // Why a line of film is refused.
-ghost use Rattle.std.specs.Prelude.{◌≡◌};
-ghost use Rattle.film.specs.Faults.{number};
+ghost use Rattle.std.specs.Prelude.{◌≡◌, Some};
+ghost use Rattle.film.specs.Faults.{number, message};
+
+use std::error::Error;
+use std::fmt;
 
 #[derive(Clone, Copy, PartialEq, Eq, Debug)]
 pub enum Fault {
@@ -23,3 +26,17 @@ impl Fault {
         }
     }
 }
+
+impl fmt::Display for Fault {
+    ghost output = { λ fault. Some (message fault) };
+
+    fn fmt<W: fmt::Write>(&self, f: &mut fmt::Formatter<W>) -> fmt::Result {
+        f.write_str(match self {
+            Fault::Unended => "the text ends before the line does",
+            Fault::BadLine => "no line has this letter and number of fields",
+            Fault::BadField => "a field is badly written, out of order or out of range",
+        })
+    }
+}
+
+impl Error for Fault {}

@@ -1,14 +1,15 @@
 // The text between recorder and player: settings, lines, and how they are read and written.
 #![tactic(auto)]
 
+mod cursor;
 mod cutting;
 mod fault;
+mod field;
 mod leaf;
 mod line;
 mod number;
 mod reading;
 mod setting;
-mod settings;
 mod standard;
 #[cfg(test)]
 mod tests;

@@ -1,5 +1,5 @@
 // The three standards, by number and by name.
-ghost use Rattle.std.specs.Prelude.{◌≡◌, Some, IfErr};
+ghost use Rattle.std.specs.Prelude.{◌≡◌, ◌++◌, Some, codes, decimal, IfErr};
 ghost use Rattle.std.specs.Result.{result_ok};
 ghost use Rattle.film.specs.Standards.{name_of, numbered, named, IsNumberOf};
 
@@ -79,12 +79,16 @@ impl TryFrom<&[u8]> for Standard {
 }
 
 impl fmt::Display for UnknownNumber {
+    ghost output = { λ e. Some (codes "no standard has the number " ++ decimal e.0) };
+
     fn fmt<W: fmt::Write>(&self, f: &mut fmt::Formatter<W>) -> fmt::Result {
         write!(f, "no standard has the number {}", self.0)
     }
 }
 
 impl fmt::Display for UnknownName {
+    ghost output = { λ _. Some (codes "no standard has this name") };
+
     fn fmt<W: fmt::Write>(&self, f: &mut fmt::Formatter<W>) -> fmt::Result {
         f.write_str("no standard has this name")
     }

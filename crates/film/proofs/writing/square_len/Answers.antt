@@ -1,10 +1,7 @@
-use Rattle.std.proofs.Common.{arith}
-use Rattle.film.proofs.Writes.{length_square}
+use Rattle.std.proofs.Common.{◌∙◌}
+use Rattle.film.specs.Texts.{square}
+use Rattle.film.proofs.Writes.{length_fields}
 use Rattle.film.proofs.writing.square_len.Goals as goal
 
-pub returns : goal.returns
-returns c =
-    record {
-      is = omega (arith, length_square c.args.column c.args.row, c.field_len.ensures.is, c.field_len-2.ensures.is);
-      few = omega (arith, c.field_len.ensures.few, c.field_len-2.ensures.few);
-    }
+pub returns-clause-is : goal.returns-clause-is
+returns-clause-is c = c.line_len.ensures.is ∙ length_fields (square c.args.column c.args.row) 81 c.square_fields.result c.square_fields.ensures.text

@@ -1,22 +1,45 @@
-use Rattle.std.proofs.Common.{sym, arith}
+use Rattle.std.proofs.Common.{get_or, pos, sym, ap, arith, w32, SFits, rules}
+use Rattle.std.specs.List.{flat_map, enumerate_from}
+use Rattle.std.proofs.lemmas.List.{take_all}
+use Rattle.std.proofs.lemmas.List.FromFn.{length-enumerate_from}
 use Rattle.film.specs.Texts.{levels}
-use Rattle.film.proofs.Writes.{text_levels, length_levels, put_then, put_as}
-use Rattle.film.proofs.Trips.{reads_back, found_at}
+use Rattle.film.proofs.Writes.{placed_text, placed_at, placed_length, text_levels, room_first, room_as, puts_as, parts_room, parts_then, line_room, line_end, line_whole}
+use Rattle.film.proofs.Trips.{reads_back}
+use Rattle.film.proofs.Written.{IsWritten, is_written}
 use Rattle.film.proofs.writing.write_levels.Goals as goal
 
-pub put-at-requires : goal.put-at-requires
-put-at-requires c = omega (arith, length_levels c.args.block.now, c.requires.room)
-
-pub put_cells-at-requires : goal.put_cells-at-requires
-put_cells-at-requires c = record { few = c.requires.few; room = omega (arith, length_levels c.args.block.now, c.requires.room, c.put-at.ensures.next, c.put-at.auto.out) }
-
 pub put-requires : goal.put-requires
-put-requires c =
-    omega (arith, length_levels c.args.block.now, c.requires.room, c.put-at.ensures.next, c.put-at.auto.out, c.put_cells-at.ensures.next, c.put_cells-at.auto.out)
+put-requires c = room_first _ _ (room_as (text_levels c.args.block.now) (record { room = c.requires.room }))
+
+pub put_cell-requires : goal.put_cell-requires
+put_cell-requires c =
+    let zs = c.args.block.now in
+    let i = c.loop-i.i in
+    let f : SFits w32 (get_or zs i (pos 0)) = search rules in
+    room_as (placed_at zs i c.loop-i-test.true f)
+    (parts_room placed_text (enumerate_from 0 zs) i (0, pos 0) (placed_length zs i c.loop-i-test.true) c.loop-i.invariant (line_room _ c.put.ensures (room_as (text_levels zs) (record { room = c.requires.room }))))
+
+pub loop-i-preserved : goal.loop-i-preserved
+loop-i-preserved c =
+    let zs = c.args.block.now in
+    let i = c.loop-i.i in
+    let f : SFits w32 (get_or zs i (pos 0)) = search rules in
+    parts_then placed_text (enumerate_from 0 zs) i (0, pos 0) (placed_length zs i c.loop-i-test.true) c.loop-i.invariant (puts_as (sym (placed_at zs i c.loop-i-test.true f)) c.put_cell.ensures)
+    (line_room _ c.put.ensures (room_as (text_levels zs) (record { room = c.requires.room })))
+
+pub put-requires-2 : goal.put-requires-2
+put-requires-2 c =
+    let zs = c.args.block.now in
+    let all = puts_as (ap (flat_map placed_text) (take_all c.loop-i.i (enumerate_from 0 zs) (omega (arith, length-enumerate_from 0 zs)))) c.loop-i.invariant in
+    line_end c.put.ensures all (room_as (text_levels zs) (record { room = c.requires.room }))
 
 pub returns : goal.returns
 returns c =
-    let l = length_levels c.args.block.now in
-    let second = put_then c.put_cells-at.ensures c.put.ensures (omega (arith, l, c.requires.room, c.put-at.ensures.next, c.put-at.auto.out)) in
-    let put = put_as (sym (text_levels c.args.block.now)) (put_then c.put-at.ensures second (omega (arith, l, c.requires.room))) in
-    record { put = put; back = λ short. reads_back (levels c.args.block.now) (c.requires.few, short); found = λ short. found_at (levels c.args.block.now) c.args.at _ _ _ put c.requires.room (reads_back (levels c.args.block.now) (c.requires.few, short)) }
+    let zs = c.args.block.now in
+    let all = puts_as (ap (flat_map placed_text) (take_all c.loop-i.i (enumerate_from 0 zs) (omega (arith, length-enumerate_from 0 zs)))) c.loop-i.invariant in
+    let p = puts_as (sym (text_levels zs)) (line_whole c.put.ensures all c.put-2.ensures (room_as (text_levels zs) (record { room = c.requires.room }))) in
+    record {
+      put = let q = p.put in search rules;
+      back = λ short. reads_back (levels zs) (c.requires.few, short);
+      found = λ short. let w : IsWritten (levels zs) _ c.put-2.new.self = is_written (levels zs) (c.requires.few, short) (record { room = c.requires.room }) p in let q = w.found in search rules;
+    }

@@ -1,24 +1,38 @@
-use Rattle.std.proofs.Common.{◌≤◌, sym, arith}
+use Rattle.std.proofs.Common.{◌≤◌, sym, ap, arith, rules}
+use Rattle.std.specs.List.{flat_map}
 use Rattle.std.proofs.ByRecursion.{All-from_get_or}
+use Rattle.std.proofs.lemmas.List.{take_all}
 use Rattle.film.specs.Texts.{raw}
-use Rattle.film.proofs.Writes.{text_raw, length_raw, put_then, put_as}
-use Rattle.film.proofs.Trips.{reads_back, found_at}
+use Rattle.film.proofs.Writes.{sample_text, text_raw, room_first, room_as, puts_as, parts_room, parts_then, line_room, line_end, line_whole}
+use Rattle.film.proofs.Written.{IsWritten, is_written}
 use Rattle.film.proofs.writing.write_samples.Goals as goal
 
-pub put-at-requires : goal.put-at-requires
-put-at-requires c = omega (arith, length_raw c.args.samples.now, c.requires)
-
-pub put_samples-at-requires : goal.put_samples-at-requires
-put_samples-at-requires c = omega (arith, length_raw c.args.samples.now, c.requires, c.put-at.ensures.next, c.put-at.auto.out)
-
 pub put-requires : goal.put-requires
-put-requires c =
-    omega (arith, length_raw c.args.samples.now, c.requires, c.put-at.ensures.next, c.put-at.auto.out, c.put_samples-at.ensures.next, c.put_samples-at.auto.out)
+put-requires c = room_first _ _ (room_as (text_raw c.args.samples.now) (record { room = c.requires }))
+
+pub put_field-requires : goal.put_field-requires
+put_field-requires c =
+    let ss = c.args.samples.now in
+    room_as (ap sample_text (sym c.into.ensures))
+    (parts_room sample_text ss c.loop-sample.sample-index 0 c.loop-sample-test.true c.loop-sample.invariant (line_room _ c.put.ensures (room_as (text_raw ss) (record { room = c.requires }))))
+
+pub loop-sample-preserved : goal.loop-sample-preserved
+loop-sample-preserved c =
+    let ss = c.args.samples.now in
+    parts_then sample_text ss c.loop-sample.sample-index 0 c.loop-sample-test.true c.loop-sample.invariant (puts_as (ap sample_text c.into.ensures) c.put_field.ensures)
+    (line_room _ c.put.ensures (room_as (text_raw ss) (record { room = c.requires })))
+
+pub put-requires-2 : goal.put-requires-2
+put-requires-2 c =
+    let ss = c.args.samples.now in
+    line_end c.put.ensures (puts_as (ap (flat_map sample_text) (take_all c.loop-sample.sample-index ss (omega arith))) c.loop-sample.invariant) (room_as (text_raw ss) (record { room = c.requires }))
 
 pub returns : goal.returns
 returns c =
-    let l = length_raw c.args.samples.now in
-    let second = put_then c.put_samples-at.ensures c.put.ensures (omega (arith, l, c.requires, c.put-at.ensures.next, c.put-at.auto.out)) in
-    let put = put_as (sym (text_raw c.args.samples.now)) (put_then c.put-at.ensures second (omega (arith, l, c.requires))) in
-    let back = reads_back (raw c.args.samples.now) (All-from_get_or (λ x. x ≤ 255) c.args.samples.now 0 (λ i l. omega (arith, (c.type_inv.samples i).fits))) in
-    record { put = put; back = back; found = found_at (raw c.args.samples.now) c.args.at _ _ _ put c.requires back }
+    let ss = c.args.samples.now in
+    let all = puts_as (ap (flat_map sample_text) (take_all c.loop-sample.sample-index ss (omega arith))) c.loop-sample.invariant in
+    let legal = All-from_get_or (λ x. x ≤ 255) ss 0 (λ i l. omega (arith, (c.type_inv.samples i).fits)) in
+    let w : IsWritten (raw ss) _ c.put-2.new.self =
+    is_written (raw ss) legal (record { room = c.requires })
+    (puts_as (sym (text_raw ss)) (line_whole c.put.ensures all c.put-2.ensures (room_as (text_raw ss) (record { room = c.requires })))) in
+    record { put = let p = w.put in search rules; back = w.back; found = let p = w.found in search rules }

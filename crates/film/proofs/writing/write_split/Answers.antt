@@ -1,14 +1,13 @@
-use Rattle.std.proofs.Common.{sym, arith}
+use Rattle.std.proofs.Common.{sym, rules}
 use Rattle.film.specs.Texts.{split}
-use Rattle.film.proofs.Writes.{text_split, length_split, put_as}
-use Rattle.film.proofs.Trips.{reads_back, found_at}
+use Rattle.film.proofs.Writes.{text_split, room_as, puts_as}
+use Rattle.film.proofs.Written.{IsWritten, is_written}
 use Rattle.film.proofs.writing.write_split.Goals as goal
 
-pub put_bytes-requires : goal.put_bytes-requires
-put_bytes-requires c = omega (arith, length_split, c.requires)
+pub put_line-requires : goal.put_line-requires
+put_line-requires c = room_as text_split (record { room = c.requires })
 
 pub returns : goal.returns
 returns c =
-    let put = put_as (sym text_split) c.put_bytes.ensures in
-    let back = reads_back split tt in
-    record { put = put; back = back; found = found_at split c.args.at _ _ _ put c.requires back }
+    let w : IsWritten split _ c.put_line.new.self = is_written split tt (record { room = c.requires }) (puts_as (sym text_split) c.put_line.ensures) in
+    record { put = let p = w.put in search rules; back = w.back; found = let p = w.found in search rules }
