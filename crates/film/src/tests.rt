@@ -1,8 +1,8 @@
 // Good and bad texts, each with its number; lines written among bytes that stay.
 use crate::{
-    Fault, Line, Setting, Standard, count_lines, fill_levels, fill_samples, levels_len, read_level,
-    read_levels, read_line, read_number, read_samples, samples_len, setting_len, split_len,
-    square_len, write_levels, write_samples, write_setting, write_split, write_square,
+    Fault, Line, Setting, Standard, count_lines, fill_block, levels_len, read_block, read_level,
+    read_line, read_number, samples_len, setting_len, split_len, square_len, write_levels,
+    write_samples, write_setting, write_split, write_square,
 };
 use std::test::Fail;
 
@@ -196,7 +196,7 @@ const NINES: [i32; 16] = [9; 16];
 
 fn block_of(pairs: &[u8]) -> (u8, [i32; 16]) {
     let mut block = NINES;
-    let number = number_of(read_levels(pairs, &mut block));
+    let number = number_of(read_block(pairs, &mut block));
     (number, block)
 }
 
@@ -260,7 +260,7 @@ const SEVENS: [u8; 4] = [7; 4];
 
 fn samples_of(samples: &[u8]) -> (u8, [u8; 4]) {
     let mut block = SEVENS;
-    let number = number_of(read_samples(samples, &mut block));
+    let number = number_of(read_block(samples, &mut block));
     (number, block)
 }
 
@@ -306,18 +306,15 @@ fn bad_samples(rt: HostRuntime) {
 #[test]
 fn scratch_blocks(rt: HostRuntime) {
     let mut levels = NINES;
-    assert_eq!(rt; fill_levels(b"\t15\t-7", &mut levels), Ok(()));
+    assert_eq!(rt; fill_block(b"\t15\t-7", &mut levels), Ok(()));
     assert_eq!(rt; levels, [0, 0, 0, 0, 0, 0, 0, 0, 0, 0, 0, 0, 0, 0, 0, -7]);
-    assert_eq!(rt; number_of(fill_levels(b"\t15", &mut levels)), 10);
-    assert_eq!(rt; number_of(fill_levels(b"\t16\t1", &mut levels)), 11);
+    assert_eq!(rt; number_of(fill_block(b"\t15", &mut levels)), 10);
+    assert_eq!(rt; number_of(fill_block(b"\t16\t1", &mut levels)), 11);
     let mut samples = SEVENS;
-    assert_eq!(rt; fill_samples(b"\t3\t2\t1\t255", &mut samples), Ok(()));
+    assert_eq!(rt; fill_block(b"\t3\t2\t1\t255", &mut samples), Ok(()));
     assert_eq!(rt; samples, [3, 2, 1, 255]);
-    assert_eq!(rt; number_of(fill_samples(b"\t3\t2\t1", &mut samples)), 10);
-    assert_eq!(rt;
-        number_of(fill_samples(b"\t3\t2\t1\t256", &mut samples)),
-        11
-    );
+    assert_eq!(rt; number_of(fill_block(b"\t3\t2\t1", &mut samples)), 10);
+    assert_eq!(rt; number_of(fill_block(b"\t3\t2\t1\t256", &mut samples)), 11);
 }
 
 #[test]
@@ -458,7 +455,7 @@ fn written_leaves_are_read_back(rt: HostRuntime) -> Result<(), Fail> {
         return Err(Fail::new("no transform leaf was read"));
     };
     let mut levels = [9; 4];
-    assert_eq!(rt; read_levels(pairs, &mut levels), Ok(()));
+    assert_eq!(rt; read_block(pairs, &mut levels), Ok(()));
     assert_eq!(rt; levels, [5, 0, -6, 0]);
     let out = written_samples([255, 0, 16, 1]);
     let (line, _) = read_line(&out[3..])?;
@@ -466,7 +463,7 @@ fn written_leaves_are_read_back(rt: HostRuntime) -> Result<(), Fail> {
         return Err(Fail::new("no raw leaf was read"));
     };
     let mut block = SEVENS;
-    assert_eq!(rt; read_samples(samples, &mut block), Ok(()));
+    assert_eq!(rt; read_block(samples, &mut block), Ok(()));
     assert_eq!(rt; block, [255, 0, 16, 1]);
     Ok(())
 }
