@@ -1,15 +1,14 @@
 -- The number that a field writes. Assumes nothing.
-use Rattle.std.proofs.Common.{◌≡◌, ℕ, zero, suc, ◌+◌, ◌-◌, ◌*◌, ◌^◌, ◌<◌, ◌≤◌, true, false, eqb, List, [], ◌∷◌, length, get_or, take, drop, ℤ, pos, negsuc, Some, None, Ok, Err, decimal, Option, Result, sym, refl, ap, ◌∙◌, subst, inl, inr, arith}
+use Rattle.std.proofs.Common.{◌≡◌, ℕ, zero, suc, ◌^◌, ◌<◌, ◌≤◌, true, false, eqb, List, [], ◌∷◌, length, get_or, take, drop, ℤ, pos, negsuc, Some, None, Ok, Err, decimal, Option, Result, sym, refl, ap, ◌∙◌, subst, inl, inr, arith}
 use Rattle.std.specs.Str.Parse.{digits_value, AllDigits}
 use Rattle.std.specs.Int.{IsInRange}
-use Rattle.std.specs.Char.{digit_value as char_digit_value}
+use Rattle.std.specs.Prelude.{◌≢◌, MatchOption}
+use Rattle.std.proofs.Math.IntN.{neg_ℤ}
 use Rattle.std.specs.Fmt.{signed_decimal}
 use Rattle.std.specs.Str.{bytes_eq}
 use Rattle.std.proofs.lemmas.List.{length-take}
-use Rattle.std.proofs.lemmas.Int.Digits.{digits_value_more, digits_more}
 use Rattle.std.proofs.lemmas.Str.Parse.{IsNumeralModel, numerals_by_value, tells_digits, digit_at, digits_value_short}
 use Rattle.std.proofs.lemmas.Slice.Eq.{bytes_eq-Decides}
-use Rattle.std.proofs.lemmas.Bool.Decides.{nat_tests}
 use Rattle.std.proofs.lemmas.Bool.{cases_Bool, cases_lt, cond-true, cond-false, eqb-true, ne_eqb}
 use Rattle.std.proofs.lemmas.Fmt.{decimal_is_IsNumeral, decimal_nonempty, length-decimal-le, first_decimal, decimal-digits_value, decimal_digit, decimal_injective}
 use Rattle.film.specs.declared.fault.Fault.{Fault}
@@ -47,18 +46,9 @@ module _ (bs : List ℕ) (n : ℕ) (h : n < 65536) (e : bs ≡ decimal n) where
         | inr k ↦ let z : n ≡ 0 = omega arith in ap length (e ∙ ap decimal z ∙ decimal_digit 0 (omega arith))
       ]
 
--- one digit more
-digit_value : (c : ℕ) → 48 ≤ c → c ≤ 57 → char_digit_value c ≡ c - 48
-digit_value c h k = grind (arith, nat_tests)
-
+-- fewer than five digits
 pub front_short : (bs : List ℕ) (i : ℕ) → i < length bs → length bs ≤ 5 → AllDigits 10 (take i bs) → digits_value 10 (take i bs) < 10000
 front_short bs i h k d = digits_value_short own (take i bs) 4 d (simp length-take (omega arith))
-
-pub value_step : (bs : List ℕ) (i : ℕ) → i < length bs → 48 ≤ get_or bs i 0 → get_or bs i 0 ≤ 57 → digits_value 10 (take (i + 1) bs) ≡ digits_value 10 (take i bs) * 10 + (get_or bs i 0 - 48)
-value_step bs i h lo hi = digits_value_more 10 bs i h ∙ ap (λ d. digits_value 10 (take i bs) * 10 + d) (digit_value _ lo hi)
-
-pub digits_step : (bs : List ℕ) (i : ℕ) → i < length bs → 48 ≤ get_or bs i 0 → get_or bs i 0 ≤ 57 → AllDigits 10 (take i bs) → AllDigits 10 (take (i + 1) bs)
-digits_step bs i h lo hi d = digits_more 10 bs i h d (omega (arith, digit_value (get_or bs i 0) lo hi))
 
 pub writes_back : (bs : List ℕ) (n : ℕ) → AllDigits 10 bs → 0 < length bs → (get_or bs 0 0 ≡ 48 → length bs ≡ 1) → n ≡ digits_value 10 bs → n < 65536 → bs ≡ decimal n
 writes_back bs n d some first v h = sym (decimal-digits_value own bs d some first (omega (arith, v))) ∙ ap decimal (sym v)
@@ -160,13 +150,40 @@ one_signed_form bs r e z = (
   (λ h. level_is bs z (ok_some (level_in bs) z (sym e ∙ h))),
 )
 
+-- a level that a call made unless it is 0, with a minus and without
+minus_is : (n : ℕ) (z : ℤ) (r : Option ℤ) → z ≡ neg_ℤ (pos n) → MatchOption r (z ≡ pos 0) (λ y. (y ≡ z) × (z ≢ pos 0)) → r ≡ minus (Some n)
+minus_is zero z None e h = refl
+minus_is zero z (Some y) e h = absurd (h.1 e)
+minus_is (suc n) z None e h = absurd (let q : pos 0 ≡ negsuc n = sym h ∙ e in let k : ◌≡◌ {A = ℕ} 0 1 = cc in omega arith)
+minus_is (suc n) z (Some y) e h = ap Some (h.0 ∙ e)
+
+plus_is : (n : ℕ) (z : ℤ) (r : Option ℤ) → z ≡ pos n → MatchOption r (z ≡ pos 0) (λ y. (y ≡ z) × (z ≢ pos 0)) → r ≡ plus (Some n)
+plus_is zero z None e h = refl
+plus_is zero z (Some y) e h = absurd (h.1 e)
+plus_is (suc n) z None e h = absurd (let q : pos (suc n) ≡ pos 0 = sym e ∙ h in let k : suc n ≡ 0 = cc in omega arith)
+plus_is (suc n) z (Some y) e h = ap Some (h.0 ∙ e)
+
 -- with a minus in front, and without
-pub level_minus : (bs : List ℕ) → 0 < length bs → get_or bs 0 0 ≡ 45 → level_in bs ≡ minus (number_below 32769 (drop 1 bs))
+level_minus : (bs : List ℕ) → 0 < length bs → get_or bs 0 0 ≡ 45 → level_in bs ≡ minus (number_below 32769 (drop 1 bs))
 unfolding level_in
 level_minus [] some e = absurd (omega arith)
 level_minus (b ∷ bs) some e = rw e refl
 
-pub level_plus : (bs : List ℕ) → (0 < length bs → get_or bs 0 0 ≡ 45 → ⊥) → level_in bs ≡ plus (number_below 32768 bs)
+level_plus : (bs : List ℕ) → (0 < length bs → get_or bs 0 0 ≡ 45 → ⊥) → level_in bs ≡ plus (number_below 32768 bs)
 unfolding level_in
 level_plus [] ne = ap plus (below_none 32768 [] (λ n h e. omega (arith, writes_some [] n (omega (arith, h)) e)))
 level_plus (b ∷ bs) ne = cond-false _ _ _ (ne_eqb b 45 (ne (omega arith)))
+
+module _ (bs : List ℕ) (some : 0 < length bs) (e : get_or bs 0 0 ≡ 45) where
+  pub minus_none : None ≡ number_below 32769 (drop 1 bs) → None ≡ level_in bs
+  minus_none h = ap minus h ∙ sym (level_minus bs some e)
+
+  pub minus_some : (n : ℕ) (z : ℤ) (r : Option ℤ) → Some n ≡ number_below 32769 (drop 1 bs) → z ≡ neg_ℤ (pos n) → MatchOption r (z ≡ pos 0) (λ y. (y ≡ z) × (z ≢ pos 0)) → r ≡ level_in bs
+  minus_some n z r h w m = minus_is n z r w m ∙ ap minus h ∙ sym (level_minus bs some e)
+
+module _ (bs : List ℕ) (ne : 0 < length bs → get_or bs 0 0 ≡ 45 → ⊥) where
+  pub plus_none : None ≡ number_below 32768 bs → None ≡ level_in bs
+  plus_none h = ap plus h ∙ sym (level_plus bs ne)
+
+  pub plus_some : (n : ℕ) (z : ℤ) (r : Option ℤ) → Some n ≡ number_below 32768 bs → z ≡ pos n → MatchOption r (z ≡ pos 0) (λ y. (y ≡ z) × (z ≢ pos 0)) → r ≡ level_in bs
+  plus_some n z r h w m = plus_is n z r w m ∙ ap plus h ∙ sym (level_plus bs ne)

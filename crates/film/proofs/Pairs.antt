@@ -1,15 +1,16 @@
 -- Pairs of position and level, and the blocks that they write. Assumes nothing.
-use Rattle.std.proofs.Common.{◌≡◌, ℕ, zero, suc, ◌+◌, ◌%◌, ◌<◌, ◌≤◌, min, true, ◌&&◌, leb, List, [], ◌∷◌, ◌++◌, length, set, replicate, ℤ, pos, negsuc, Some, None, Ok, Err, decimal, Option, Result, sym, refl, ap, ◌∙◌, subst, inl, inr, add-one, arith, Bor}
+use Rattle.std.proofs.Common.{◌≡◌, ℕ, zero, suc, ◌+◌, ◌%◌, ◌<◌, ◌≤◌, min, true, ◌&&◌, leb, List, [], ◌∷◌, ◌++◌, length, set, replicate, ℤ, pos, negsuc, Some, None, Ok, Err, decimal, Option, Result, sym, refl, ap, ◌∙◌, subst, inl, inr, add-one, arith}
 use lib.Signed.{le_z}
+use Rattle.std.specs.List.{AllByRecursion as All}
 use Rattle.std.specs.Fmt.{signed_decimal}
 use Rattle.std.proofs.lemmas.List.{append_assoc, length_push, set_at}
 use Rattle.std.proofs.lemmas.Bool.{cases_Bool, cases_lt, cond-true, cond-false, le-leb, leb-true, and_parts}
 use Rattle.transform.specs.Meaning.{shorts}
 use Rattle.film.specs.declared.fault.Fault.{Fault}
-use Rattle.film.specs.declared.fault.Fault.TheVariants.{BadLine, BadField}
-use Rattle.film.specs.Fields.{fields}
+use Rattle.film.specs.declared.fault.Fault.TheVariants.{BadLine}
+use Rattle.film.specs.Fields.{begun, fields}
 use Rattle.film.specs.Numbers.{number_below, limit, no_less, position_in, level_in, Level}
-use Rattle.film.specs.Leaves.{Pair, with_pair, pair_then, pairs_from, paired, spread, spread_all, unless, levels_in, nonzeros, pair_fields, answered, CutPair}
+use Rattle.film.specs.Leaves.{Pair, with_pair, pair_then, pairs_from, paired, spread, spread_all, unless, levels_in, levels_after, nonzeros, pair_fields, answered, pair_of, read_pair, behind_pair, pair_reads, gathered, IsWithin}
 use Rattle.film.proofs.Numerals.{below_is, below_back, level_is, level_back}
 
 -- a position that is read, and one that was written
@@ -40,48 +41,58 @@ unfolding pairs_from
 pair_step from n f g fs p z a b =
     ap (λ o. pair_then o (level_in g) (λ q. pairs_from (suc q) n fs)) a ∙ ap (λ l. pair_then (Some p) l (λ q. pairs_from (suc q) n fs)) b
 
-pub position_bad : (from n : ℕ) (f g : List ℕ) (fs : List (List ℕ)) → position_in from n f ≡ None → pairs_from from n (f ∷ g ∷ fs) ≡ Err BadField
+-- the pairs that whole pairs of fields write are those that are read, up to the first refusal
+pub gathered_reads : (from n : ℕ) (fs : List (List ℕ)) → paired fs ≡ None → gathered (pair_reads from n fs) ≡ pairs_from from n fs
 unfolding pairs_from
-position_bad from n f g fs a = ap (λ o. pair_then o (level_in g) (λ q. pairs_from (suc q) n fs)) a
+gathered_reads from n [] h = refl
+gathered_reads from n (f ∷ []) h = absurd (let z : ◌≡◌ {A = ℕ} 0 1 = cc in omega arith)
+gathered_reads from n (f ∷ g ∷ fs) h = by (position_in from n f) (level_in g) (λ k. gathered_reads k n fs h) where
+  by : (o : Option ℕ) (l : Option ℤ) → ((k : ℕ) → gathered (pair_reads k n fs) ≡ pairs_from k n fs) → gathered (pair_of o l ∷ pair_reads (behind_pair from (pair_of o l)) n fs) ≡ pair_then o l (λ p. pairs_from (suc p) n fs)
+  by None l ih = refl
+  by (Some p) None ih = refl
+  by (Some p) (Some z) ih = ap (with_pair (p, z)) (ih (suc p))
 
-pub level_bad : (from n : ℕ) (f g : List ℕ) (fs : List (List ℕ)) (p : ℕ) → position_in from n f ≡ Some p → level_in g ≡ None → pairs_from from n (f ∷ g ∷ fs) ≡ Err BadField
-unfolding pairs_from
-level_bad from n f g fs p a b =
-    ap (λ o. pair_then o (level_in g) (λ q. pairs_from (suc q) n fs)) a ∙ ap (λ l. pair_then (Some p) l (λ q. pairs_from (suc q) n fs)) b
+pub reads_step : (from n : ℕ) (fs gs hs : List (List ℕ)) (f g : List ℕ) → fs ≡ f ∷ gs → gs ≡ g ∷ hs → pair_reads from n fs ≡ read_pair from n f g ∷ pair_reads (behind_pair from (read_pair from n f g)) n hs
+reads_step from n fs gs hs f g e h = ap (pair_reads from n) (e ∙ ap (λ xs. f ∷ xs) h)
 
--- the same of a pair that a call cut off
-module _ (from n : ℕ) (fs : List (List ℕ)) (p : ℕ) (z : ℤ) (more : Bor (List ℕ)) (c : CutPair from n fs (Ok (p, z, more))) where
-  pub cut_step : pairs_from from n fs ≡ with_pair (p, z) (pairs_from (p + 1) n (fields more.now))
-  cut_step =
-      ap (pairs_from from n) c.2 ∙ pair_step from n c.0 c.1 (fields more.now) p z c.3 c.4
-      ∙ ap (λ k. with_pair (p, z) (pairs_from k n (fields more.now))) (sym (add-one p))
+answered_with : (p : Pair) (r : Result (List Pair) Fault) → answered (with_pair p r) ≡ answered r
+answered_with p (Ok ps) = refl
+answered_with p (Err e) = refl
 
-  pub cut_within : p < n
-  cut_within = position_within from n c.0 p c.3
+spread_with : (zs : List ℤ) (p : Pair) (r : Result (List Pair) Fault) → spread_all zs (with_pair p r) ≡ spread_all (set zs p.0 p.1) r
+spread_with zs p (Ok ps) = refl
+spread_with zs p (Err e) = refl
 
-  pub cut_paired : paired fs ≡ None → paired (fields more.now) ≡ None
-  cut_paired h = sym (ap paired c.2) ∙ h
+-- a pair that a loop has read, and the refusal at which it stops
+pub one_placed : (zs : List ℤ) (p : ℕ) (z : ℤ) (rs qs : List (Result Pair Fault)) → rs ≡ Ok (p, z) ∷ qs → spread_all zs (gathered rs) ≡ spread_all (set zs p z) (gathered qs)
+one_placed zs p z rs qs e = ap (λ r. spread_all zs (gathered r)) e ∙ spread_with zs (p, z) (gathered qs)
+
+pub bad_placed : (zs : List ℤ) (x : Fault) (rs qs : List (Result Pair Fault)) → rs ≡ Err x ∷ qs → spread_all zs (gathered rs) ≡ Err x
+bad_placed zs x rs qs e = ap (λ r. spread_all zs (gathered r)) e
+
+pub one_checked : (p : Pair) (rs qs : List (Result Pair Fault)) → rs ≡ Ok p ∷ qs → answered (gathered rs) ≡ answered (gathered qs)
+one_checked p rs qs e = ap (λ r. answered (gathered r)) e ∙ answered_with p (gathered qs)
+
+pub bad_checked : (x : Fault) (rs qs : List (Result Pair Fault)) → rs ≡ Err x ∷ qs → answered (gathered rs) ≡ Err x
+bad_checked x rs qs e = ap (λ r. answered (gathered r)) e
+
+pub levels_answered : (zs : List ℤ) (r : Result (List Pair) Fault) → answered (spread_all zs r) ≡ answered r
+levels_answered zs (Ok ps) = refl
+levels_answered zs (Err e) = refl
+
+pub reads_within : (from n : ℕ) (fs : List (List ℕ)) → All (IsWithin n) (pair_reads from n fs)
+reads_within from n [] = tt
+reads_within from n (f ∷ []) = tt
+reads_within from n (f ∷ g ∷ fs) = (by (position_in from n f) (level_in g) refl, reads_within (behind_pair from (read_pair from n f g)) n fs) where
+  by : (o : Option ℕ) (l : Option ℤ) → position_in from n f ≡ o → IsWithin n (pair_of o l)
+  by None l e = tt
+  by (Some p) None e = tt
+  by (Some p) (Some z) e = position_within from n f p e
 
 pub pairs_end : (from n : ℕ) (fs : List (List ℕ)) → length fs ≡ 0 → pairs_from from n fs ≡ Ok []
 unfolding pairs_from
 pairs_end from n [] h = refl
 pairs_end from n (f ∷ fs) h = absurd (omega arith)
-
-pub no_fields : (t : List ℕ) → length t ≡ 0 → length (fields t) ≡ 0
-no_fields [] h = refl
-no_fields (x ∷ xs) h = absurd (omega arith)
-
-pub answered_with : (p : Pair) (r : Result (List Pair) Fault) → answered (with_pair p r) ≡ answered r
-answered_with p (Ok ps) = refl
-answered_with p (Err e) = refl
-
-pub spread_with : (zs : List ℤ) (p : Pair) (r : Result (List Pair) Fault) → spread_all zs (with_pair p r) ≡ spread_all (set zs p.0 p.1) r
-spread_with zs p (Ok ps) = refl
-spread_with zs p (Err e) = refl
-
-answered_spread : (zs : List ℤ) (r : Result (List Pair) Fault) → answered (spread_all zs r) ≡ answered r
-answered_spread zs (Ok ps) = refl
-answered_spread zs (Err e) = refl
 
 -- whole pairs are an even number of fields
 pub even_paired : (fs : List (List ℕ)) → length fs % 2 ≡ 0 → paired fs ≡ None
@@ -98,16 +109,22 @@ pub paired_more : (f : List ℕ) (fs gs : List (List ℕ)) → gs ≡ f ∷ fs �
 paired_more f [] gs e h = absurd (let k : ◌≡◌ {A = Option Fault} (Some BadLine) None = sym (ap paired e) ∙ h in let z : ◌≡◌ {A = ℕ} 0 1 = cc in omega arith)
 paired_more f (g ∷ fs) gs e h = omega arith
 
-pub odd_levels : (n : ℕ) (fs : List (List ℕ)) → (length fs % 2 ≡ 0 → ⊥) → levels_in n fs ≡ Err BadLine
+odd_levels : (n : ℕ) (fs : List (List ℕ)) → (length fs % 2 ≡ 0 → ⊥) → levels_in n fs ≡ Err BadLine
 unfolding levels_in
 odd_levels n fs h = ap (λ o. unless o (spread_all (replicate n (pos 0)) (pairs_from 0 n fs))) (odd_paired fs h)
 
-pub even_levels : (n : ℕ) (fs : List (List ℕ)) → length fs % 2 ≡ 0 → levels_in n fs ≡ spread_all (replicate n (pos 0)) (pairs_from 0 n fs)
+even_levels : (n : ℕ) (fs : List (List ℕ)) → length fs % 2 ≡ 0 → levels_in n fs ≡ spread_all (replicate n (pos 0)) (gathered (pair_reads 0 n fs))
 unfolding levels_in
-even_levels n fs h = ap (λ o. unless o (spread_all (replicate n (pos 0)) (pairs_from 0 n fs))) (even_paired fs h)
+even_levels n fs h =
+    ap (λ o. unless o (spread_all (replicate n (pos 0)) (pairs_from 0 n fs))) (even_paired fs h)
+    ∙ ap (spread_all (replicate n (pos 0))) (sym (gathered_reads 0 n fs (even_paired fs h)))
 
-pub answered_levels : (n : ℕ) (fs : List (List ℕ)) → length fs % 2 ≡ 0 → answered (levels_in n fs) ≡ answered (pairs_from 0 n fs)
-answered_levels n fs h = ap answered (even_levels n fs h) ∙ answered_spread (replicate n (pos 0)) (pairs_from 0 n fs)
+-- the same of what follows a letter
+pub odd_after : (n : ℕ) (tail : List ℕ) → begun tail ≡ true → (length (fields tail) % 2 ≡ 0 → ⊥) → levels_after n tail ≡ Err BadLine
+odd_after n tail b h = cond-true _ _ _ b ∙ odd_levels n (fields tail) h
+
+pub even_after : (n : ℕ) (tail : List ℕ) → begun tail ≡ true → length (fields tail) % 2 ≡ 0 → levels_after n tail ≡ spread_all (replicate n (pos 0)) (gathered (pair_reads 0 n (fields tail)))
+even_after n tail b h = cond-true _ _ _ b ∙ even_levels n (fields tail) h
 
 -- ---- what was written is read back
 pub short_head : (z : ℤ) (zs : List ℤ) → shorts (z ∷ zs) ≡ true → (le_z (negsuc 32767) z ≡ true) × (le_z z (pos 32767) ≡ true) × (shorts zs ≡ true)

@@ -1,18 +1,25 @@
 -- Where a byte stands first, one step at a time. Assumes nothing.
 use Rattle.std.proofs.Common.{◌≡◌, ℕ, suc, ◌+◌, ◌-◌, ◌<◌, ◌≤◌, eqb, List, [], ◌∷◌, ◌++◌, length, get_or, take, drop, Some, None, Option, sym, refl, ap, ◌∙◌, subst, inl, inr, arith}
-use Rattle.std.specs.List.{AllByRecursion as All}
-use Rattle.std.proofs.lemmas.List.{at_drop_more, at_drop_all, take_rest, take-append-drop, drop_more, take_at, drop_at, length-append, append_assoc}
+use Rattle.std.specs.List.{AllByRecursion as All, position_or_len}
+use Rattle.std.specs.Prelude.{◌==◌, Bool, true, false, cond, nat_lt}
+use Rattle.std.specs.List.{position}
+use Rattle.std.specs.Option.{option_map, unwrap_or}
+use Rattle.std.proofs.lemmas.List.Recursion.{is_position_or_len}
+use Rattle.std.proofs.lemmas.List.{take_rest, take-append-drop, drop_more, take_at, drop_at, length-append, append_assoc}
+use Rattle.std.proofs.lemmas.Bool.Decides.{nat_tests}
 use Rattle.std.proofs.lemmas.Bool.{eq-eqb, ne_eqb, lt-ltb, le-ltb, cond-true, cond-false, cases_Bool, cases_lt, eqb-true}
 use Rattle.film.specs.Fields.{place, cut_at}
 
-pub place_here : (b : ℕ) (xs : List ℕ) (i : ℕ) → i < length xs → get_or xs i 0 ≡ b → place b (drop i xs) ≡ 0
-place_here b xs i h e = at_drop_more (place b) xs i 0 h ∙ cond-true _ _ _ (eq-eqb _ _ e)
+-- the place in the library's words
+pub place_is : (b : ℕ) (xs : List ℕ) → place b xs ≡ position_or_len (λ x. x == b) xs
+place_is b = is_position_or_len (place b) (λ x. x == b) refl (λ x xs. ap (cond (x == b) 0) (omega arith))
 
-pub place_on : (b : ℕ) (xs : List ℕ) (i : ℕ) → i < length xs → (get_or xs i 0 ≡ b → ⊥) → place b (drop i xs) ≡ suc (place b (drop (i + 1) xs))
-place_on b xs i h e = at_drop_more (place b) xs i 0 h ∙ cond-false _ _ _ (ne_eqb _ _ e)
-
-pub place_end : (b : ℕ) (xs : List ℕ) (i : ℕ) → length xs ≤ i → place b (drop i xs) ≡ 0
-place_end b xs i h = at_drop_all (place b) xs i h
+-- what is cut, by the place that the library finds
+pub cut_position : (b : ℕ) (xs : List ℕ) → cut_at b xs ≡ option_map (λ i. (take i xs, drop (i + 1) xs)) (position (λ x. x == b) xs)
+cut_position b xs = simp place_is (by (nat_lt (position_or_len (λ x. x == b) xs) (length xs)) (position_or_len (λ x. x == b) xs)) where
+  by : (t : Bool) (i : ℕ) → cond {A = Option (List ℕ × List ℕ)} t (Some (take i xs, drop (i + 1) xs)) None ≡ option_map (λ i. (take i xs, drop (i + 1) xs)) (cond t (Some i) None)
+  by true i = refl
+  by false i = refl
 
 pub place_le : (b : ℕ) (xs : List ℕ) → place b xs ≤ length xs
 place_le b [] = omega arith
@@ -21,6 +28,10 @@ place_le b (x ∷ xs) =
       | inl e ↦ simp e (omega arith)
       | inr e ↦ simp e (omega (arith, place_le b xs))
     ]
+
+-- and where nothing is found, all bytes stand before it
+pub place_found : (b : ℕ) (xs : List ℕ) → place b xs ≡ unwrap_or (position (λ x. x == b) xs) (length xs)
+place_found b xs = grind (arith, place_is, place_le, nat_tests)
 
 pub get_or_place : (b : ℕ) (xs : List ℕ) → place b xs < length xs → get_or xs (place b xs) 0 ≡ b
 get_or_place b [] h = absurd (omega arith)

@@ -1,14 +1,15 @@
 -- Samples one after another. Assumes nothing.
-use Rattle.std.proofs.Common.{◌≡◌, ℕ, ◌+◌, ◌<◌, ◌≤◌, true, false, List, [], ◌∷◌, ◌++◌, map, length, take, set, is_some, Some, None, Ok, Err, decimal, Option, Result, sym, refl, ap, ◌∙◌, inl, inr, arith}
+use Rattle.std.proofs.Common.{◌≡◌, ℕ, ◌+◌, ◌<◌, ◌≤◌, true, List, [], ◌∷◌, ◌++◌, map, length, take, set, Some, None, Ok, Err, decimal, Option, Result, sym, refl, ap, ◌∙◌, inl, inr, arith}
 use Rattle.std.specs.List.{AllByRecursion as All}
-use Rattle.std.proofs.lemmas.List.{append_assoc, length-map, take_more_set}
+use Rattle.std.proofs.lemmas.List.{append_assoc, append-nil, length-map, take_all, take_more_set}
 use Rattle.std.proofs.lemmas.Bool.{cond-true, cond-false, eq-eqb, ne_eqb, cases_eq}
 use Rattle.film.specs.declared.fault.Fault.{Fault}
-use Rattle.film.specs.declared.fault.Fault.TheVariants.{BadLine, BadField}
+use Rattle.film.specs.declared.fault.Fault.TheVariants.{BadLine}
 use Rattle.film.specs.Faults.{or_bad_field}
+use Rattle.film.specs.Fields.{begun, fields}
 use Rattle.film.specs.Numbers.{number_below}
-use Rattle.film.specs.Leaves.{with_sample, samples_of, samples_in, answered}
-use Rattle.film.proofs.Numerals.{below_is, below_back}
+use Rattle.film.specs.Leaves.{with_sample, samples_of, samples_in, samples_after, answered}
+use Rattle.film.proofs.Numerals.{below_is, below_back, err_none, ok_some}
 
 -- another number of fields than samples, and the same
 pub samples_many : (n : ℕ) (fs : List (List ℕ)) → (length fs ≡ n → ⊥) → samples_in n fs ≡ Err BadLine
@@ -18,6 +19,13 @@ samples_many n fs h = cond-false _ _ _ (ne_eqb (length fs) n h)
 pub samples_all : (n : ℕ) (fs : List (List ℕ)) → length fs ≡ n → samples_in n fs ≡ or_bad_field (samples_of fs)
 unfolding samples_in
 samples_all n fs h = cond-true _ _ _ (eq-eqb (length fs) n h)
+
+-- the same of what follows a letter
+pub many_after : (n : ℕ) (tail : List ℕ) → begun tail ≡ true → (length (fields tail) ≡ n → ⊥) → samples_after n tail ≡ Err BadLine
+many_after n tail b h = cond-true _ _ _ b ∙ samples_many n (fields tail) h
+
+pub all_after : (n : ℕ) (tail : List ℕ) → begun tail ≡ true → length (fields tail) ≡ n → samples_after n tail ≡ or_bad_field (samples_of (fields tail))
+all_after n tail b h = cond-true _ _ _ b ∙ samples_all n (fields tail) h
 
 -- samples behind others
 abbrev pub behind : List ℕ → Option (List ℕ) → Option (List ℕ)
@@ -37,35 +45,44 @@ sample_step : (f : List ℕ) (fs : List (List ℕ)) → samples_of (f ∷ fs) �
 unfolding samples_of
 sample_step f fs = refl
 
-module _ (gs : List (List ℕ)) (f : List ℕ) (fs : List (List ℕ)) (e : gs ≡ f ∷ fs) where
-  pub sample_more : (block : List ℕ) (i v : ℕ) → i < length block → Some v ≡ number_below 256 f → behind (take i block) (samples_of gs) ≡ behind (take (i + 1) (set block i v)) (samples_of fs)
-  sample_more block i v h w =
-      ap (λ xs. behind (take i block) (samples_of xs)) e ∙ ap (behind (take i block)) (sample_step f fs ∙ ap (λ o. with_sample o (samples_of fs)) (sym w))
-      ∙ behind_with (take i block) v (samples_of fs) ∙ ap (λ xs. behind xs (samples_of fs)) (sym (take_more_set block i v h))
+some_with : (v : ℕ) (o : Option (List ℕ)) → answered (or_bad_field (with_sample (Some v) o)) ≡ answered (or_bad_field o)
+some_with v (Some ss) = refl
+some_with v None = refl
 
-  pub sample_none : None ≡ number_below 256 f → samples_of gs ≡ None
-  sample_none w = ap samples_of e ∙ sample_step f fs ∙ ap (λ o. with_sample o (samples_of fs)) (sym w)
-
-  some_with : (v : ℕ) (o : Option (List ℕ)) → is_some (with_sample (Some v) o) ≡ is_some o
-  some_with v (Some ss) = refl
-  some_with v None = refl
-
-  pub sample_some : (v : ℕ) → Some v ≡ number_below 256 f → is_some (samples_of gs) ≡ is_some (samples_of fs)
-  sample_some v w = ap (λ xs. is_some (samples_of xs)) e ∙ ap is_some (sample_step f fs ∙ ap (λ o. with_sample o (samples_of fs)) (sym w)) ∙ some_with v (samples_of fs)
-
-pub samples_end : (fs : List (List ℕ)) → length fs ≡ 0 → samples_of fs ≡ Some []
+samples_end : samples_of [] ≡ Some []
 unfolding samples_of
-samples_end [] h = refl
-samples_end (f ∷ fs) h = absurd (omega arith)
+samples_end = refl
 
--- the answer, by whether there are samples
-pub answered_some : (o : Option (List ℕ)) → is_some o ≡ true → answered (or_bad_field o) ≡ Ok tt
-answered_some (Some ss) h = refl
-answered_some None h = absurd (let z : ◌≡◌ {A = ℕ} 0 1 = cc in omega arith)
+-- a field that a loop reads, the last before it, and the one at which it stops
+module _ (fs gs : List (List ℕ)) (f : List ℕ) (e : fs ≡ f ∷ gs) where
+  pub one_placed : (block : List ℕ) (i v : ℕ) → i < length block → Ok v ≡ or_bad_field (number_below 256 f) → or_bad_field (behind (take i block) (samples_of fs)) ≡ or_bad_field (behind (take (i + 1) (set block i v)) (samples_of gs))
+  one_placed block i v h w =
+      let s = ok_some (number_below 256 f) v (sym w) in
+      ap or_bad_field
+      (ap (λ xs. behind (take i block) (samples_of xs)) e ∙ ap (behind (take i block)) (sample_step f gs ∙ ap (λ o. with_sample o (samples_of gs)) s)
+      ∙ behind_with (take i block) v (samples_of gs) ∙ ap (λ xs. behind xs (samples_of gs)) (sym (take_more_set block i v h)))
 
-pub answered_none : (o : Option (List ℕ)) → is_some o ≡ false → or_bad_field o ≡ Err BadField
-answered_none (Some ss) h = absurd (let z : ◌≡◌ {A = ℕ} 0 1 = cc in omega arith)
-answered_none None h = refl
+  pub bad_placed : (xs : List ℕ) (x : Fault) → Err x ≡ or_bad_field (number_below 256 f) → or_bad_field (behind xs (samples_of fs)) ≡ Err x
+  bad_placed xs x w =
+      let n = err_none (number_below 256 f) x w in
+      ap (λ ys. or_bad_field (behind xs (samples_of ys))) e ∙ ap (λ o. or_bad_field (behind xs o)) (sample_step f gs ∙ ap (λ o. with_sample o (samples_of gs)) n.1)
+      ∙ ap Err (sym n.0)
+
+  pub one_checked : (v : ℕ) → Ok v ≡ or_bad_field (number_below 256 f) → answered (or_bad_field (samples_of fs)) ≡ answered (or_bad_field (samples_of gs))
+  one_checked v w =
+      let s = ok_some (number_below 256 f) v (sym w) in
+      ap (λ xs. answered (or_bad_field (samples_of xs))) e ∙ ap (λ o. answered (or_bad_field o)) (sample_step f gs ∙ ap (λ o. with_sample o (samples_of gs)) s)
+      ∙ some_with v (samples_of gs)
+
+  pub bad_checked : (x : Fault) → Err x ≡ or_bad_field (number_below 256 f) → answered (or_bad_field (samples_of fs)) ≡ Err x
+  bad_checked x w = ap (λ o. answered (or_bad_field o)) (sym (behind_none (samples_of fs))) ∙ ap answered (bad_placed [] x w)
+
+module _ (fs : List (List ℕ)) (e : fs ≡ []) where
+  pub all_placed : (block : List ℕ) (i : ℕ) → length block ≤ i → or_bad_field (behind (take i block) (samples_of fs)) ≡ Ok block
+  all_placed block i h = ap (λ o. or_bad_field (behind (take i block) o)) (ap samples_of e ∙ samples_end) ∙ ap Ok (append-nil (take i block) ∙ take_all i block h)
+
+  pub all_checked : answered (or_bad_field (samples_of fs)) ≡ Ok tt
+  all_checked = ap (λ o. answered (or_bad_field o)) (ap samples_of e ∙ samples_end)
 
 -- what was written is read back
 pub samples_back : (ss : List ℕ) → All (λ s. s ≤ 255) ss → samples_of (map decimal ss) ≡ Some ss

@@ -1,12 +1,15 @@
 -- The fields of a line, as they are cut off. Assumes nothing.
-use Rattle.std.proofs.Common.{◌≡◌, ℕ, suc, ◌+◌, ◌-◌, ◌<◌, ◌≤◌, Bool, true, false, eqb, List, [], ◌∷◌, ◌++◌, length, get_or, take, drop, Some, None, Err, sym, refl, ap, ◌∙◌, inl, inr, add-one, arith}
-use Rattle.std.specs.List.{AllByRecursion as All}
-use Rattle.std.proofs.lemmas.List.{take_rest, drop_more, drop_all, take_all, at_drop_more, at_drop_all, append_assoc, append-nil}
-use Rattle.std.proofs.lemmas.Bool.{cases_Bool, cond-true, cond-false, cases_lt, eq-eqb, ne_eqb, eqb-true, eqb-false}
+use Rattle.std.proofs.Common.{◌≡◌, ℕ, suc, ◌+◌, ◌-◌, ◌<◌, ◌≤◌, Bool, true, false, eqb, List, [], ◌∷◌, ◌++◌, length, take, drop, Some, None, Err, sym, refl, ap, ◌∙◌, inl, inr, add-one, arith}
+use Rattle.std.specs.List.{AllByRecursion as All, position}
+use Rattle.std.specs.Option.{unwrap_or}
+use Rattle.std.specs.Prelude.{◌==◌}
+use Rattle.std.proofs.lemmas.List.{take_rest, drop_more, drop_all, take_all, append_assoc, append-nil}
+use Rattle.std.proofs.lemmas.Bool.{cases_Bool, cases_lt, ne_eqb, eqb-true, eqb-false}
 use Rattle.film.specs.declared.fault.Fault.TheVariants.{BadLine}
 use Rattle.film.specs.Fields.{place, cut_at, onto, at_tabs, begun, fields, tabbed}
+use Rattle.film.specs.Leaves.{if_begun}
 use Rattle.film.specs.Lines.{by_letter, by_fields, parse}
-use Rattle.film.proofs.Places.{Free, cut_some, cut_none, place_free}
+use Rattle.film.proofs.Places.{Free, place_found, cut_some, cut_none, place_free}
 
 -- a first field and more, or one field alone
 pub tabs_at : (xs : List ℕ) → place 9 xs < length xs → at_tabs xs ≡ take (place 9 xs) xs ∷ at_tabs (drop (suc (place 9 xs)) xs)
@@ -64,46 +67,28 @@ not_empty xs r e f = let ne = eqb-false (length xs) 0 (sym e ∙ f) in omega (ar
 pub nothing_follows : (xs : List ℕ) (r : Bool) → r ≡ eqb (length xs) 0 → r ≡ true → length xs ≡ 0
 nothing_follows xs r e f = eqb-true (length xs) 0 (sym e ∙ f)
 
--- what a line is, by the length of its first field
-pub parse_one : (line : List ℕ) → place 9 line ≡ 1 → parse line ≡ by_letter (get_or line 0 0) (drop 1 line) (fields (drop 1 line))
-parse_one [] h = absurd (omega arith)
-parse_one (l ∷ []) h =
-    elim (cases_Bool (eqb l 9)) [
-      | inl e ↦ absurd (omega (arith, simp e at h))
-      | inr e ↦ simp e
-    ]
-parse_one (l ∷ x ∷ xs) h =
-    elim (cases_Bool (eqb l 9)) [
-      | inl e ↦ absurd (omega (arith, simp e at h))
-      | inr e ↦ elim (cases_Bool (eqb x 9)) [
-        | inl d ↦ simp (e, d)
-        | inr d ↦ absurd (omega (arith, simp (e, d) at h))
-      ]
-    ]
-
+-- what a line is, by its first byte: a tab there is no letter
 long_letter : (line : List ℕ) (x y : ℕ) (fs : List (List ℕ)) → by_fields line (onto x (onto y fs)) ≡ Err BadLine
 long_letter line x y [] = refl
 long_letter line x y (f ∷ fs) = refl
 
-pub parse_other : (line : List ℕ) → (place 9 line ≡ 1 → ⊥) → parse line ≡ Err BadLine
-parse_other [] h = refl
-parse_other (x ∷ []) h =
-    elim (cases_Bool (eqb x 9)) [
-      | inl e ↦ simp e
-      | inr e ↦ absurd (h (simp e))
+pub parse_by_letter : (letter : ℕ) (tail : List ℕ) → parse (letter ∷ tail) ≡ if_begun tail (by_letter letter tail (fields tail))
+parse_by_letter letter [] =
+    elim (cases_Bool (eqb letter 9)) [
+      | inl e ↦ rw (eqb-true letter 9 e) refl
+      | inr e ↦ simp e
     ]
-parse_other (x ∷ y ∷ ys) h =
-    elim (cases_Bool (eqb x 9)) [
-      | inl e ↦ simp e
-      | inr e ↦ elim (cases_Bool (eqb y 9)) [
-        | inl d ↦ absurd (h (simp (e, d)))
-        | inr d ↦ simp (e, d) (long_letter (x ∷ y ∷ ys) x y (at_tabs ys))
+parse_by_letter letter (x ∷ xs) =
+    elim (cases_Bool (eqb letter 9)) [
+      | inl e ↦ elim (cases_Bool (eqb x 9)) [
+        | inl d ↦ rw (eqb-true letter 9 e, d) refl
+        | inr d ↦ rw (eqb-true letter 9 e, d) refl
+      ]
+      | inr e ↦ elim (cases_Bool (eqb x 9)) [
+        | inl d ↦ simp (e, d)
+        | inr d ↦ simp (e, d) (long_letter (letter ∷ x ∷ xs) letter x (at_tabs xs))
       ]
     ]
-
-pub place_one : (line : List ℕ) → place 9 line ≡ 1 → 1 ≤ length line
-place_one [] h = absurd (omega arith)
-place_one (x ∷ xs) h = omega arith
 
 -- one field cut off
 pub next_is : (xs : List ℕ) (p : ℕ) → p ≡ place 9 xs → at_tabs xs ≡ take p xs ∷ fields (drop p xs)
@@ -117,22 +102,26 @@ next_is xs p e =
           rw (drop_all p xs h, take_all p xs h) (tabs_last xs k)
     ]
 
--- how many fields: one more with each tab
-length_onto : (x : ℕ) (fs : List (List ℕ)) → 0 < length fs → length (onto x fs) ≡ length fs
-length_onto x [] h = absurd (omega arith)
-length_onto x (f ∷ fs) h = refl
+-- the same of what follows a letter, by the place that the library finds
+pub next_fields : (tail rest : List ℕ) (x : ℕ) (p : ℕ) → tail ≡ x ∷ rest → p ≡ unwrap_or (position (λ x. x == 9) rest) (length rest) → fields tail ≡ take p rest ∷ fields (drop p rest)
+next_fields tail rest x p e h = ap fields e ∙ next_is rest p (h ∙ sym (place_found 9 rest))
 
-tabs_many : (xs : List ℕ) → 0 < length (at_tabs xs)
-tabs_many xs = let p = tabs_first xs in omega (arith, ap length p.2)
+-- no more fields than bytes
+length-onto : (x : ℕ) (fs : List (List ℕ)) → length (onto x fs) ≤ 1 + length fs
+length-onto x [] = omega arith
+length-onto x (f ∷ fs) = omega arith
 
-pub count_tab : (xs : List ℕ) (i : ℕ) → i < length xs → get_or xs i 0 ≡ 9 → length (at_tabs (drop i xs)) ≡ 1 + length (at_tabs (drop (i + 1) xs))
-count_tab xs i h e = at_drop_more (λ ys. length (at_tabs ys)) xs i 0 h ∙ ap length (cond-true _ _ _ (eq-eqb _ _ e)) ∙ omega arith
+tabs_no_longer : (xs : List ℕ) → length (at_tabs xs) ≤ 1 + length xs
+tabs_no_longer [] = omega arith
+tabs_no_longer (x ∷ xs) =
+    elim (cases_Bool (eqb x 9)) [
+      | inl e ↦ rw e (omega (arith, tabs_no_longer xs))
+      | inr e ↦ rw e (omega (arith, length-onto x (at_tabs xs), tabs_no_longer xs))
+    ]
 
-pub count_other : (xs : List ℕ) (i : ℕ) → i < length xs → (get_or xs i 0 ≡ 9 → ⊥) → length (at_tabs (drop i xs)) ≡ length (at_tabs (drop (i + 1) xs))
-count_other xs i h e = at_drop_more (λ ys. length (at_tabs ys)) xs i 0 h ∙ ap length (cond-false _ _ _ (ne_eqb _ _ e)) ∙ length_onto (get_or xs i 0) (at_tabs (drop (i + 1) xs)) (tabs_many (drop (i + 1) xs))
-
-pub count_end : (xs : List ℕ) (i : ℕ) → length xs ≤ i → length (at_tabs (drop i xs)) ≡ 1
-count_end xs i h = at_drop_all (λ ys. length (at_tabs ys)) xs i h
+pub fields_no_longer : (tail : List ℕ) → length (fields tail) ≤ length tail
+fields_no_longer [] = omega arith
+fields_no_longer (x ∷ xs) = omega (arith, tabs_no_longer xs)
 
 -- fields without tabs, put together and cut again
 pub tabs_free : (xs : List ℕ) → Free 9 xs → at_tabs xs ≡ xs ∷ []

@@ -6,19 +6,19 @@ use Rattle.film.specs.declared.fault.Fault.{Fault}
 use Rattle.film.specs.declared.fault.Fault.TheVariants.{BadLine}
 use Rattle.std.proofs.ByRecursion.{All-from_get_or, All-append}
 use Rattle.std.proofs.lemmas.List.{append_assoc, drop_at, drop-drop, length-take-le}
-use Rattle.std.proofs.lemmas.Bool.{ne_eqb, leb-true, ltb-true, and_parts, cases_Bool, cond-true, cond-false}
+use Rattle.std.proofs.lemmas.Bool.{leb-true, ltb-true, and_parts, cases_Bool, cond-true, cond-false}
 use Rattle.transform.specs.Meaning.{shorts}
 use Rattle.film.specs.declared.standard.Standard.{Standard}
 use Rattle.film.specs.declared.standard.Standard.TheVariants.{Hevc, H264, Vc1}
 use Rattle.film.specs.Standards.{name_of}
-use Rattle.film.specs.Fields.{letter_t, letter_r, place, cut_at, begun, fields, tabbed}
+use Rattle.film.specs.Fields.{letter_t, letter_r, cut_at, begun, fields, tabbed}
 use Rattle.film.specs.Numbers.{number_in}
 use Rattle.film.specs.Leaves.{levels_in, samples_in, if_begun, nonzeros, pair_fields}
 use Rattle.film.specs.Lines.{Parts, M, Q, S, T, R, by_letter, with_rest, cut_line, line_of}
 use Rattle.film.specs.Texts.{Entry, setting, square, split, levels, raw, letter_of, fields_of, text_of, Put}
 use Rattle.film.specs.Films.{Reads, ReadsAt, Film, Alone, ReadsBack, line_count}
 use Rattle.film.proofs.Places.{Free, cut_append}
-use Rattle.film.proofs.Splits.{parse_one, fields_back, tabbed_end, tabbed_fields, begun_tabbed}
+use Rattle.film.proofs.Splits.{parse_by_letter, fields_back, tabbed_end, tabbed_fields, begun_tabbed}
 use Rattle.film.proofs.Wholes.{whole, shorter, count_from, count_start, count_line, count_stop}
 use Rattle.film.proofs.Numerals.{writes_digit, below_is, below_some}
 use Rattle.film.proofs.Pairs.{short_head, levels_back, levels_fields}
@@ -127,25 +127,14 @@ tabbed_free : (fs : List (List ℕ)) → All (Free 10) fs → Free 10 (tabbed fs
 tabbed_free [] h = tt
 tabbed_free (f ∷ fs) h = ((λ e. omega (arith, e)), All-append (λ x. x ≡ 10 → ⊥) f (tabbed fs []) h.0 (tabbed_free fs h.1))
 
-place_letter : (l : ℕ) (fs : List (List ℕ)) → (l ≡ 9 → ⊥) → place 9 (l ∷ tabbed fs []) ≡ 1
-place_letter l [] h = rw (ne_eqb l 9 h) refl
-place_letter l (f ∷ fs) h = rw (ne_eqb l 9 h) refl
-
 -- a letter and fields are read back to them
-line_back : (l : ℕ) (fs : List (List ℕ)) (rest : List ℕ) → (l ≡ 9 → ⊥) → (l ≡ 10 → ⊥) → All (Free 9) fs → All (Free 10) fs → line_of (l ∷ tabbed fs (10 ∷ rest)) ≡ with_rest rest (by_letter l (tabbed fs []) fs)
+line_back : (l : ℕ) (fs : List (List ℕ)) (rest : List ℕ) → (l ≡ 10 → ⊥) → All (Free 9) fs → All (Free 10) fs → line_of (l ∷ tabbed fs (10 ∷ rest)) ≡ with_rest rest (by_letter l (tabbed fs []) fs)
 unfolding line_of
-line_back l fs rest tab newline f9 f10 =
+line_back l fs rest newline f9 f10 =
     let line : List ℕ = l ∷ tabbed fs [] in
     let free : Free 10 line = (newline, tabbed_free fs f10) in
     ap (λ xs. cut_line (cut_at 10 (l ∷ xs))) (tabbed_end fs (10 ∷ rest)) ∙ ap cut_line (cut_append 10 line rest free)
-    ∙ ap (with_rest rest) (parse_one line (place_letter l fs tab) ∙ ap (by_letter l (tabbed fs [])) (fields_back fs f9))
-
-letter_tab : (e : Entry) → letter_of e ≡ 9 → ⊥
-letter_tab (setting name step tolerance) h = omega (arith, h)
-letter_tab (square column row) h = omega (arith, h)
-letter_tab split h = omega (arith, h)
-letter_tab (levels zs) h = omega (arith, h)
-letter_tab (raw ss) h = omega (arith, h)
+    ∙ ap (with_rest rest) (parse_by_letter l (tabbed fs []) ∙ cond-true _ _ _ (begun_tabbed fs) ∙ ap (by_letter l (tabbed fs [])) (fields_back fs f9))
 
 letter_newline : (e : Entry) → letter_of e ≡ 10 → ⊥
 letter_newline (setting name step tolerance) h = omega (arith, h)
@@ -156,7 +145,7 @@ letter_newline (raw ss) h = omega (arith, h)
 
 entry_back : (e : Entry) → Legal e → (rest : List ℕ) → line_of (text_of e ++ rest) ≡ with_rest rest (by_letter (letter_of e) (tabbed (fields_of e) []) (fields_of e))
 entry_back e l rest =
-    ap line_of (text_rest e rest) ∙ line_back (letter_of e) (fields_of e) rest (letter_tab e) (letter_newline e) (fields_free 9 (omega arith) no_tab e l) (fields_free 10 (omega arith) no_newline e l)
+    ap line_of (text_rest e rest) ∙ line_back (letter_of e) (fields_of e) rest (letter_newline e) (fields_free 9 (omega arith) no_tab e l) (fields_free 10 (omega arith) no_newline e l)
 
 number_back : (n : ℕ) → n ≤ 65535 → number_in (decimal n) ≡ Some n
 number_back n h = sym (below_some 65536 (decimal n) n (omega arith) (omega arith) refl)
@@ -201,7 +190,7 @@ reads_line (levels zs) text rest h = (T h.0, h.1)
 reads_line (raw ss) text rest h = (R h.0, h.1)
 
 pub film_count : (text : List ℕ) (es : List Entry) → Film es text → line_count (length text) text ≡ Ok (length es)
-film_count text [] h = sym (count_start (line_count (length text) text)) ∙ count_stop 0 text (ap length h)
+film_count text [] h = sym (count_start (line_count (length text) text)) ∙ count_stop 0 text h
 film_count text (e ∷ es) h =
     let l = reads_line e text h.0 h.1 in
     let w = shorter l.0 h.0 text (whole text l.0 h.0 l.1) in

@@ -6,7 +6,7 @@ use Rattle.film.specs.declared.fault.Fault.{Fault}
 use Rattle.film.specs.declared.fault.Fault.TheVariants.{BadLine}
 use Rattle.film.specs.declared.line.Line.{Line}
 use Rattle.film.specs.Fields.{cut_at, at_tabs, tabbed}
-use Rattle.film.specs.Lines.{Parts, M, Q, S, T, R, parts_of, line_seen, m_line, q_line, s_line, by_fields, parse, with_rest, cut_line, line_of, together, Joins}
+use Rattle.film.specs.Lines.{Parts, M, Q, S, T, R, parts_of, line_seen, m_line, q_line, s_line, by_fields, parse, with_rest, cut_line, line_of, together, Joins, ReadsLine}
 use Rattle.film.specs.Films.{one_more, count_on, line_count}
 use Rattle.film.proofs.Places.{cut_whole}
 use Rattle.film.proofs.Splits.{tabbed_end, tabbed_tabs}
@@ -133,16 +133,27 @@ count_line n (x ∷ xs) p rest h e =
     ap (λ o. count_from n (count_on (λ rest. line_count (length xs) rest) o)) e ∙ count_next n (line_count (length xs) rest)
     ∙ ap (count_from (n + 1)) (count_enough (length xs) (length rest) rest (omega arith) (omega arith))
 
-pub count_bad : (n : ℕ) (text : List ℕ) (e : Fault) → 0 < length text → line_of text ≡ Err e → count_from n (line_count (length text) text) ≡ Err e
+count_bad : (n : ℕ) (text : List ℕ) (e : Fault) → 0 < length text → line_of text ≡ Err e → count_from n (line_count (length text) text) ≡ Err e
 unfolding line_count
 count_bad n [] e h w = absurd (omega arith)
 count_bad n (x ∷ xs) e h w = ap (λ o. count_from n (count_on (λ rest. line_count (length xs) rest) o)) w
+
+-- the same of a call that reads the next line
+module _ (n : ℕ) (text : List ℕ) (o : Option (Result Line Fault)) (rest : List ℕ) (r : ReadsLine text o rest) where
+  pub counted_line : (l : Line) → o ≡ Some (Ok l) → (count_from n (line_count (length text) text) ≡ count_from (n + 1) (line_count (length rest) rest)) × (length rest < length text)
+  counted_line l e =
+      let f = subst (λ x. ReadsLine text x rest) e r in
+      (count_line n text (parts_of l) rest f.0 f.1, shorter (parts_of l) rest text (whole text (parts_of l) rest f.1))
+
+  pub counted_bad : (x : Fault) → o ≡ Some (Err x) → count_from n (line_count (length text) text) ≡ Err x
+  counted_bad x e =
+      let f = subst (λ y. ReadsLine text y rest) e r in
+      count_bad n text x f.0 f.1
 
 pub count_start : (o : Result ℕ Fault) → count_from 0 o ≡ o
 count_start (Ok k) = ap Ok (omega arith)
 count_start (Err e) = refl
 
-pub count_stop : (n : ℕ) (text : List ℕ) → length text ≡ 0 → count_from n (line_count (length text) text) ≡ Ok n
+pub count_stop : (n : ℕ) (text : List ℕ) → text ≡ [] → count_from n (line_count (length text) text) ≡ Ok n
 unfolding line_count
-count_stop n [] h = ap Ok (omega arith)
-count_stop n (x ∷ xs) h = absurd (omega arith)
+count_stop n text e = rw e (ap Ok (omega arith))

@@ -1,6 +1,5 @@
 -- The fields of leaves: pairs of position and level, and samples. Assumes nothing.
-use Rattle.std.specs.Prelude.{◌≡◌, ℕ, zero, suc, cond, List, [], ◌∷◌, length, replicate, ℤ, pos, negsuc, Some, None, Ok, Err, decimal, Option, Result, ◌==◌, slice_set}
-use Rattle.std.specs.Borrow.{Bor}
+use Rattle.std.specs.Prelude.{ℕ, zero, suc, ◌<◌, cond, List, [], ◌∷◌, length, replicate, ℤ, pos, negsuc, Some, None, Ok, Err, decimal, Option, Result, ◌==◌, slice_set}
 use Rattle.std.specs.Fmt.{signed_decimal}
 use Rattle.film.specs.declared.fault.Fault.{Fault}
 use Rattle.film.specs.declared.fault.Fault.TheVariants.{BadLine, BadField}
@@ -102,8 +101,33 @@ abbrev pub given : {X : Type 0} → Result (Unit {0}) Fault → X → Result X F
 given (Ok u) written = Ok written
 given (Err e) written = Err e
 
--- a call that cuts one pair off the fields: position, level and what is left, or 11
-abbrev pub CutPair : ℕ → ℕ → List (List ℕ) → Result (ℕ × ℤ × Bor (List ℕ)) Fault → Type 0
-CutPair from n fs (Ok p) =
-    (f : List ℕ) × (g : List ℕ) × (fs ≡ f ∷ g ∷ fields p.2.now) × (position_in from n f ≡ Some p.0) × (level_in g ≡ Some p.1)
-CutPair from n fs (Err e) = (e ≡ BadField) × (pairs_from from n fs ≡ Err BadField)
+-- a pair of fields: position and level, or 11
+abbrev pub pair_of : Option ℕ → Option ℤ → Result Pair Fault
+pair_of (Some p) (Some z) = Ok (p, z)
+pair_of (Some p) None = Err BadField
+pair_of None level = Err BadField
+
+abbrev pub read_pair : ℕ → ℕ → List ℕ → List ℕ → Result Pair Fault
+read_pair from n f g = pair_of (position_in from n f) (level_in g)
+
+-- the least position that may come next
+abbrev pub behind_pair : ℕ → Result Pair Fault → ℕ
+behind_pair from (Ok p) = suc p.0
+behind_pair from (Err e) = from
+
+-- what pairs of fields are read as, one after another; a field that is left over is not looked at
+abbrev pub pair_reads : ℕ → ℕ → List (List ℕ) → List (Result Pair Fault)
+pair_reads from n [] = []
+pair_reads from n (f ∷ []) = []
+pair_reads from n (f ∷ g ∷ fs) = read_pair from n f g ∷ pair_reads (behind_pair from (read_pair from n f g)) n fs
+
+-- the pairs that were read, or the first refusal
+abbrev pub gathered : List (Result Pair Fault) → Result (List Pair) Fault
+gathered [] = Ok []
+gathered (Ok p ∷ rs) = with_pair p (gathered rs)
+gathered (Err e ∷ rs) = Err e
+
+-- a pair that was read has its position below n
+abbrev pub IsWithin : ℕ → Result Pair Fault → Type 0
+IsWithin n (Ok p) = p.0 < n
+IsWithin n (Err e) = Unit {0}

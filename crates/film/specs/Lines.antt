@@ -1,5 +1,5 @@
 -- What a line of film is, over lists of bytes. Assumes nothing.
-use Rattle.std.specs.Prelude.{◌≡◌, ℕ, cond, List, [], ◌∷◌, ◌++◌, drop, Some, None, Ok, Err, Option, Result, ◌==◌}
+use Rattle.std.specs.Prelude.{◌≡◌, ℕ, cond, List, [], ◌∷◌, ◌++◌, ◌<◌, length, drop, Some, None, Ok, Err, Option, Result, ◌==◌}
 use Rattle.std.specs.Borrow.{Bor}
 use Rattle.film.specs.declared.fault.Fault.{Fault}
 use Rattle.film.specs.declared.fault.Fault.TheVariants.{Unended, BadLine}
@@ -98,3 +98,9 @@ together (R tail) rest = letter_r ∷ (tail ++ (10 ∷ rest))
 abbrev pub Joins : Result (Parts × List ℕ) Fault → List ℕ → Type 0
 Joins (Ok p) text = together p.0 p.1 ≡ text
 Joins (Err e) text = Unit {0}
+
+-- a call that reads the next line of a text, with what is left after it; nothing comes after the end
+abbrev pub ReadsLine : List ℕ → Option (Result Line Fault) → List ℕ → Type 0
+ReadsLine text None rest = text ≡ []
+ReadsLine text (Some (Ok l)) rest = (0 < length text) × (line_of text ≡ Ok (parts_of l, rest))
+ReadsLine text (Some (Err e)) rest = (0 < length text) × (line_of text ≡ Err e)

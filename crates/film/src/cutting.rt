@@ -1,57 +1,75 @@
 // Cutting a text into lines and fields.
-ghost use Rattle.std.specs.Prelude.{◌≡◌, ◌<◌, ◌∷◌, length};
-ghost use Rattle.film.specs.Fields.{place, cut_at, cut_seen, fields};
+ghost use Rattle.std.specs.Prelude.{◌≡◌, ◌==◌, ◌<◌, ◌^◌, true, false, length, MatchResult};
+ghost use Rattle.std.specs.List.{position};
+ghost use Rattle.film.specs.Fields.{cut_at, cut_seen, begun, fields};
+
+use crate::fault::Fault;
 
 pub(crate) const TAB: u8 = 9;
 
 pub(crate) const NEWLINE: u8 = 10;
 
-// How many bytes stand before the first `byte`: all of them where there is none.
-pub(crate) fn find(text: &[u8], byte: u8) -> usize
-    ensures { result ≡ place byte text.now }
+// Where the first `byte` stands.
+fn find(text: &[u8], byte: u8) -> Option<usize>
+    ensures { result ≡ position (λ x. x == byte) text.now }
 {
-    for (i, x) in text.iter().enumerate() {
-        if *x == byte {
-            return i;
-        }
-    }
-    text.len()
+    text.iter().position(|b| *b == byte)
 }
 
 // What stands before the first `byte`, and what after it.
+#[tactic(auto, using(crate::proofs::Places::cut_position, std::proofs::lemmas::List::take_rest))]
 pub(crate) fn cut<'a>(text: &'a [u8], byte: u8) -> Option<(&'a [u8], &'a [u8])>
     ensures { cut_seen result ≡ cut_at byte text.now }
 {
-    let i = find(text, byte);
-    if i < text.len() {
-        Some((&text[..i], &text[i + 1..]))
-    } else {
-        None
-    }
+    let i = find(text, byte)?;
+    Some((&text[..i], &text[i + 1..]))
 }
 
-// How many fields follow a letter.
-pub(crate) fn count_fields(tail: &[u8]) -> usize
-    ensures { result ≡ length (fields tail.now) }
-{
-    if tail.is_empty() {
-        return 0;
-    }
-    let rest = &tail[1..];
-    let mut count = 1;
-    for b in rest {
-        if *b == TAB {
-            count += 1;
+// The fields of what follows a letter, one after another.
+#[derive(Clone, Copy)]
+pub(crate) struct Fields<'a> {
+    // What is left: nothing, or a tab before each field.
+    tail: &'a [u8],
+    // So that a count of the fields fits.
+    ghost fits: { length (fields tail.now) < 2 ^ 64 },
+}
+
+impl<'a> Fields<'a> {
+    // What follows a letter is nothing, or begins with a tab.
+    #[tactic(auto, using(crate::proofs::Splits::fields_no_longer))]
+    pub(crate) fn new(tail: &'a [u8]) -> Result<Fields<'a>, Fault>
+        ensures { MatchResult result
+            (λ fs. (begun tail.now ≡ true) × (fs.tail.now ≡ tail.now)) (λ e. (begun tail.now ≡ false) × (e ≡ Fault.BadLine)) }
+    {
+        match tail {
+            [] | [TAB, ..] => Ok(Fields { tail }),
+            _ => Err(Fault::BadLine),
         }
     }
-    count
+
+    // How many are left.
+    pub(crate) fn len(&self) -> usize
+        ensures { result ≡ length (fields self.now.tail.now) }
+    {
+        (*self).count()
+    }
 }
 
-// The first field after a letter, and the fields behind it, each with its tab.
-pub(crate) fn next_field<'a>(tail: &'a [u8]) -> (&'a [u8], &'a [u8])
-    requires { 0 < length tail.now }
-    ensures { fields tail.now ≡ result.0.now ∷ fields result.1.now }
-{
-    let rest = &tail[1..];
-    rest.split_at(find(rest, TAB))
+impl<'a> Iterator for Fields<'a> {
+    ghost use Rattle.std.specs.Iterator.{YieldsFirstRef, item_count};
+    ghost use Rattle.film.specs.Fields.{fields};
+
+    type Item = &'a [u8];
+
+    ghost next_gives = { YieldsFirstRef (λ s. fields s.tail.now) };
+
+    ghost remaining = { item_count (λ s. fields s.tail.now) };
+
+    #[tactic(auto, using(crate::proofs::Splits::next_fields))]
+    fn next(&mut self) -> Option<&'a [u8]> {
+        let (_, rest) = self.tail.split_first()?;
+        let (field, more) = rest.split_at(find(rest, TAB).unwrap_or(rest.len()));
+        self.tail = more;
+        Some(field)
+    }
 }

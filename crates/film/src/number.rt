@@ -1,7 +1,7 @@
 // Numbers in fields.
-ghost use Rattle.std.specs.Prelude.{◌≡◌, ◌<◌, ◌≤◌, IfSome};
+ghost use Rattle.std.specs.Prelude.{◌≡◌, ◌≢◌, ◌<◌, ◌≤◌, pos, IfOk, IfSome, MatchOption};
 ghost use Rattle.film.specs.Faults.{or_bad_field};
-ghost use Rattle.film.specs.Numbers.{number_below, number_in, level_in, position_in, plus, minus, OneForm, OneSignedForm};
+ghost use Rattle.film.specs.Numbers.{number_below, number_in, level_in, position_in, OneForm, OneSignedForm};
 
 use crate::fault::Fault;
 
@@ -15,17 +15,17 @@ const LEVELS: usize = 32768;
 const SAMPLES: usize = 256;
 
 // The number that a field writes.
+#[tactic(auto, using(crate::proofs::Numerals::one_form))]
 pub fn read_number(field: &[u8]) -> Result<u16, Fault>
     ensures is { result ≡ or_bad_field (number_in field.now) }
     ensures form { OneForm result field.now }
 {
-    match number_below(field, LIMIT) {
-        Some(n) => Ok(n as u16),
-        None => Err(Fault::BadField),
-    }
+    let number = number_below(field, LIMIT).ok_or(Fault::BadField)?;
+    Ok(number as u16)
 }
 
 // The level that a field writes: not 0, of 16 bits, and with a minus only where it is negative.
+#[tactic(auto, using(crate::proofs::Numerals::one_signed_form))]
 pub fn read_level(field: &[u8]) -> Result<i32, Fault>
     ensures is { result ≡ or_bad_field (level_in field.now) }
     ensures form { OneSignedForm result field.now }
@@ -36,30 +36,34 @@ pub fn read_level(field: &[u8]) -> Result<i32, Fault>
 fn level_in(field: &[u8]) -> Option<i32>
     ensures { result ≡ level_in field.now }
 {
-    if !field.is_empty() && field[0] == b'-' {
-        minus(number_below(&field[1..], LEVELS + 1))
-    } else {
-        plus(number_below(field, LEVELS))
+    match field {
+        [b'-', digits @ ..] => unless_zero(-(number_below(digits, LEVELS + 1)? as i32)),
+        _ => unless_zero(number_below(field, LEVELS)? as i32),
     }
+}
+
+fn unless_zero(level: i32) -> Option<i32>
+    ensures { MatchOption result (level ≡ pos 0) (λ z. (z ≡ level) × (level ≢ pos 0)) }
+{
+    if level == 0 { None } else { Some(level) }
 }
 
 // The position that a field writes, from `from` on and below `count`.
-pub(crate) fn position_in(field: &[u8], from: usize, count: usize) -> Option<usize>
-    ensures is { result ≡ position_in from count field.now }
-    ensures within { IfSome result (λ p. p < count) }
+pub(crate) fn read_position(field: &[u8], from: usize, count: usize) -> Result<usize, Fault>
+    ensures is { result ≡ or_bad_field (position_in from count field.now) }
+    ensures within { IfOk result (λ p. p < count) }
 {
-    let position = number_below(field, count.min(LIMIT))?;
-    if position < from {
-        return None;
-    }
-    Some(position)
+    number_below(field, count.min(LIMIT))
+        .filter(|position| *position >= from)
+        .ok_or(Fault::BadField)
 }
 
 // The sample that a field writes.
-pub(crate) fn sample_in(field: &[u8]) -> Option<u8>
-    ensures { result ≡ number_below 256 field.now }
+pub(crate) fn read_sample(field: &[u8]) -> Result<u8, Fault>
+    ensures { result ≡ or_bad_field (number_below 256 field.now) }
 {
-    Some(number_below(field, SAMPLES)? as u8)
+    let sample = number_below(field, SAMPLES).ok_or(Fault::BadField)?;
+    Ok(sample as u8)
 }
 
 // The number below `limit` whose decimal form is the field.
@@ -68,41 +72,15 @@ fn number_below(field: &[u8], limit: usize) -> Option<usize>
     ensures is { result ≡ number_below limit field.now }
     ensures below { IfSome result (λ n. n < limit) }
 {
-    let size = field.len();
-    if size == 0 || size > 5 {
+    if field.is_empty() || field.len() > 5 {
         return None;
     }
-    if field[0] == b'0' && size > 1 {
+    if let [b'0', _, ..] = field {
         return None;
     }
-    let mut n = 0;
-    for b in field {
-        if *b < b'0' || *b > b'9' {
-            return None;
-        }
-        n = n * 10 + (*b - b'0') as usize;
+    let mut number = 0;
+    for byte in field {
+        number = number * 10 + char::from(*byte).to_digit(10)? as usize;
     }
-    if n < limit { Some(n) } else { None }
-}
-
-// A number that is not 0, as it is.
-fn plus(number: Option<usize>) -> Option<i32>
-    requires { IfSome number (λ n. n ≤ 32767) }
-    ensures { result ≡ plus number }
-{
-    match number {
-        None | Some(0) => None,
-        Some(n) => Some(n as i32),
-    }
-}
-
-// A number that is not 0, with a minus.
-fn minus(number: Option<usize>) -> Option<i32>
-    requires { IfSome number (λ n. n ≤ 32768) }
-    ensures { result ≡ minus number }
-{
-    match number {
-        None | Some(0) => None,
-        Some(n) => Some(-(n as i32)),
-    }
+    if number < limit { Some(number) } else { None }
 }

@@ -4,7 +4,7 @@ ghost use Rattle.film.specs.Fields.{cut_at, fields};
 ghost use Rattle.film.specs.Lines.{m_line, q_line, s_line, parse, parse_seen, cut_line, line_of, line_seen, Joins};
 ghost use Rattle.film.specs.Films.{Alone, Counts, line_count};
 
-use crate::cutting::{NEWLINE, TAB, cut, find};
+use crate::cutting::{Fields, NEWLINE, cut};
 use crate::fault::Fault;
 use crate::line::Line;
 
@@ -20,9 +20,7 @@ pub fn read_line<'a>(text: &'a [u8]) -> Result<(Line<'a>, &'a [u8]), Fault>
 fn first_line<'a>(text: &'a [u8]) -> Result<(Line<'a>, &'a [u8]), Fault>
     ensures { line_seen result ≡ cut_line (cut_at 10 text.now) }
 {
-    let Some((line, rest)) = cut(text, NEWLINE) else {
-        return Err(Fault::Unended);
-    };
+    let (line, rest) = cut(text, NEWLINE).ok_or(Fault::Unended)?;
     let line = parse(line)?;
     Ok((line, rest))
 }
@@ -31,35 +29,31 @@ fn first_line<'a>(text: &'a [u8]) -> Result<(Line<'a>, &'a [u8]), Fault>
 fn parse<'a>(line: &'a [u8]) -> Result<Line<'a>, Fault>
     ensures { parse_seen result ≡ parse line.now }
 {
-    if find(line, TAB) != 1 {
+    let [letter, tail @ ..] = line else {
         return Err(Fault::BadLine);
-    }
-    let tail = &line[1..];
-    match line[0] {
-        b'M' => parse_setting(tail),
-        b'Q' => parse_square(tail),
-        b'S' => parse_split(tail),
+    };
+    let fields = Fields::new(tail)?;
+    match *letter {
+        b'M' => parse_setting(fields),
+        b'Q' => parse_square(fields),
+        b'S' => parse_split(fields),
         b'T' => Ok(Line::Levels { pairs: tail }),
         b'R' => Ok(Line::Raw { samples: tail }),
         _ => Err(Fault::BadLine),
     }
 }
 
-fn parse_setting<'a>(tail: &'a [u8]) -> Result<Line<'a>, Fault>
-    ensures { parse_seen result ≡ m_line (fields tail.now) }
+fn parse_setting<'a>(mut tail: Fields<'a>) -> Result<Line<'a>, Fault>
+    ensures { parse_seen result ≡ m_line (fields tail.entry.tail.now) }
 {
-    if tail.is_empty() {
-        return Err(Fault::BadLine);
-    }
-    let Some((name, more)) = cut(&tail[1..], TAB) else {
+    let (Some(name), Some(step), Some(tolerance), None) = (
+        tail.next(),
+        tail.next(),
+        tail.next(),
+        tail.next(),
+    ) else {
         return Err(Fault::BadLine);
     };
-    let Some((step, tolerance)) = cut(more, TAB) else {
-        return Err(Fault::BadLine);
-    };
-    if find(tolerance, TAB) < tolerance.len() {
-        return Err(Fault::BadLine);
-    }
     Ok(Line::Setting {
         name,
         step,
@@ -67,28 +61,53 @@ fn parse_setting<'a>(tail: &'a [u8]) -> Result<Line<'a>, Fault>
     })
 }
 
-fn parse_square<'a>(tail: &'a [u8]) -> Result<Line<'a>, Fault>
-    ensures { parse_seen result ≡ q_line (fields tail.now) }
+fn parse_square<'a>(mut tail: Fields<'a>) -> Result<Line<'a>, Fault>
+    ensures { parse_seen result ≡ q_line (fields tail.entry.tail.now) }
 {
-    if tail.is_empty() {
-        return Err(Fault::BadLine);
-    }
-    let Some((column, row)) = cut(&tail[1..], TAB) else {
+    let (Some(column), Some(row), None) = (tail.next(), tail.next(), tail.next()) else {
         return Err(Fault::BadLine);
     };
-    if find(row, TAB) < row.len() {
-        return Err(Fault::BadLine);
-    }
     Ok(Line::Square { column, row })
 }
 
-fn parse_split<'a>(tail: &'a [u8]) -> Result<Line<'a>, Fault>
-    ensures { parse_seen result ≡ s_line (fields tail.now) }
+fn parse_split<'a>(mut tail: Fields<'a>) -> Result<Line<'a>, Fault>
+    ensures { parse_seen result ≡ s_line (fields tail.entry.tail.now) }
 {
-    if tail.is_empty() {
-        Ok(Line::Split)
-    } else {
-        Err(Fault::BadLine)
+    match tail.next() {
+        None => Ok(Line::Split),
+        Some(_) => Err(Fault::BadLine),
+    }
+}
+
+// The lines of a text, one after another, up to the first that cannot be read.
+#[derive(Drop)]
+struct Lines<'a>(&'a [u8]);
+
+impl<'a> Iterator for Lines<'a> {
+    ghost use Rattle.std.specs.Prelude.{length};
+    ghost use Rattle.std.specs.Iterator.{at_most};
+    ghost use Rattle.film.specs.Lines.{ReadsLine};
+
+    type Item = Result<Line<'a>, Fault>;
+
+    ghost next_gives = { λ s r t. ReadsLine s.0.now r t.0.now };
+
+    ghost remaining = { λ s. at_most (length s.0.now) };
+
+    fn next(&mut self) -> Option<Result<Line<'a>, Fault>> {
+        if self.0.is_empty() {
+            return None;
+        }
+        match read_line(self.0) {
+            Ok((line, more)) => {
+                self.0 = more;
+                Some(Ok(line))
+            }
+            Err(fault) => {
+                self.0 = &[];
+                Some(Err(fault))
+            }
+        }
     }
 }
 
@@ -98,12 +117,10 @@ pub fn count_lines(text: &[u8]) -> Result<usize, Fault>
     ensures lines { Counts text.now result }
     ensures alone { Alone text.now }
 {
-    let mut rest = text;
     let mut count = 0;
-    while !rest.is_empty() {
-        let (_, more) = read_line(rest)?;
+    for line in Lines(text) {
+        line?;
         count += 1;
-        rest = more;
     }
     Ok(count)
 }

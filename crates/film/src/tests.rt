@@ -1,18 +1,21 @@
 // Good and bad texts, each with its number; lines written among bytes that stay.
 use crate::{
-    Fault, Line, Setting, Standard, UnknownName, UnknownNumber, count_lines, fill_levels,
-    fill_samples, levels_len, read_level, read_levels, read_line, read_number, read_samples,
-    samples_len, setting_len, split_len, square_len, write_levels, write_samples, write_setting,
-    write_split, write_square,
+    Fault, Line, Setting, Standard, UnknownName, UnknownNumber, Value, count_lines, fill_block, levels_len,
+    read_block, read_level, read_line, read_number, samples_len, setting_len, split_len, square_len,
+    write_levels, write_samples, write_setting, write_split, write_square,
 };
 use std::test::Fail;
 
-// The refusal's number, or 0.
-fn number_of<T: Copy>(answer: Result<T, Fault>) -> u8 {
-    match answer {
-        Ok(_) => 0,
-        Err(fault) => fault.number(),
-    }
+// The number by which a call refuses, if it does.
+fn refusal<T: Copy>(answer: Result<T, Fault>) -> Option<u8> {
+    answer.err().map(|fault| fault.number())
+}
+
+// What reading over a block answers, with the number of its refusal, and the block after it.
+fn read_over<T: Value, const N: usize>(before: [T; N], fields: &[u8]) -> (Result<(), u8>, [T; N]) {
+    let mut block = before;
+    let answer = read_block(fields, &mut block).map_err(|fault| fault.number());
+    (answer, block)
 }
 
 #[test]
@@ -47,7 +50,7 @@ fn bad_numbers(rt: HostRuntime) {
         b"/",
         b":",
     ] {
-        assert_eq!(rt; number_of(read_number(field)), 11);
+        assert_eq!(rt; refusal(read_number(field)), Some(11));
     }
 }
 
@@ -80,7 +83,7 @@ fn bad_levels(rt: HostRuntime) {
         b"- 1",
         b"-1\r",
     ] {
-        assert_eq!(rt; number_of(read_level(field)), 11);
+        assert_eq!(rt; refusal(read_level(field)), Some(11));
     }
 }
 
@@ -94,7 +97,7 @@ fn lines_without_end(rt: HostRuntime) {
         b"M\tHEVC\t22\t8",
         b"T\t0\t64\r",
     ] {
-        assert_eq!(rt; number_of(read_line(text)), 9);
+        assert_eq!(rt; refusal(read_line(text)), Some(9));
     }
 }
 
@@ -123,7 +126,7 @@ fn bad_lines(rt: HostRuntime) {
         b"M\tHEVC\t22\t8\t\n",
         b"U\t0\t1\n",
     ] {
-        assert_eq!(rt; number_of(read_line(text)), 10);
+        assert_eq!(rt; refusal(read_line(text)), Some(10));
     }
 }
 
@@ -195,28 +198,14 @@ fn films(rt: HostRuntime) {
 // What stands in a block before it is read.
 const NINES: [i32; 16] = [9; 16];
 
-fn block_of(pairs: &[u8]) -> (u8, [i32; 16]) {
-    let mut block = NINES;
-    let number = number_of(read_levels(pairs, &mut block));
-    (number, block)
-}
-
-// The number by which pairs are refused, if the block is then as it was.
-fn refusal_of(pairs: &[u8]) -> Option<u8> {
-    let (number, block) = block_of(pairs);
-    if block == NINES { Some(number) } else { None }
-}
-
 #[test]
 fn blocks_of_levels(rt: HostRuntime) {
-    assert_eq!(rt; block_of(b""), (0, [0; 16]));
+    assert_eq!(rt; read_over(NINES, b""), (Ok(()), [0; 16]));
     assert_eq!(rt;
-        block_of(b"\t0\t64"),
-        (0, [64, 0, 0, 0, 0, 0, 0, 0, 0, 0, 0, 0, 0, 0, 0, 0])
+        read_over(NINES, b"\t0\t64"), (Ok(()), [64, 0, 0, 0, 0, 0, 0, 0, 0, 0, 0, 0, 0, 0, 0, 0])
     );
     assert_eq!(rt;
-        block_of(b"\t1\t-32768\t14\t3\t15\t32767"),
-        (0, [0, -32768, 0, 0, 0, 0, 0, 0, 0, 0, 0, 0, 0, 0, 3, 32767])
+        read_over(NINES, b"\t1\t-32768\t14\t3\t15\t32767"), (Ok(()), [0, -32768, 0, 0, 0, 0, 0, 0, 0, 0, 0, 0, 0, 0, 3, 32767])
     );
 }
 
@@ -230,7 +219,7 @@ fn bad_numbers_of_pairs(rt: HostRuntime) {
         b"0\t64",
         b"X0\t64",
     ] {
-        assert_eq!(rt; refusal_of(pairs), Some(10));
+        assert_eq!(rt; read_over(NINES, pairs), (Err(10), NINES));
     }
 }
 
@@ -252,28 +241,16 @@ fn bad_pairs(rt: HostRuntime) {
         b"\t0\t-32769",
         b"\t0\t64\r",
     ] {
-        assert_eq!(rt; refusal_of(pairs), Some(11));
+        assert_eq!(rt; read_over(NINES, pairs), (Err(11), NINES));
     }
 }
 
 // What stands in a block of samples before it is read.
 const SEVENS: [u8; 4] = [7; 4];
 
-fn samples_of(samples: &[u8]) -> (u8, [u8; 4]) {
-    let mut block = SEVENS;
-    let number = number_of(read_samples(samples, &mut block));
-    (number, block)
-}
-
-// The number by which samples are refused, if the block is then as it was.
-fn samples_refusal(samples: &[u8]) -> Option<u8> {
-    let (number, block) = samples_of(samples);
-    if block == SEVENS { Some(number) } else { None }
-}
-
 #[test]
 fn blocks_of_samples(rt: HostRuntime) {
-    assert_eq!(rt; samples_of(b"\t0\t255\t16\t1"), (0, [0, 255, 16, 1]));
+    assert_eq!(rt; read_over(SEVENS, b"\t0\t255\t16\t1"), (Ok(()), [0, 255, 16, 1]));
     for samples in [
         b"".as_slice(),
         b"\t0\t255\t16",
@@ -281,7 +258,7 @@ fn blocks_of_samples(rt: HostRuntime) {
         b"\t0\t255\t16\t1\t",
         b"0\t1\t2\t3",
     ] {
-        assert_eq!(rt; samples_refusal(samples), Some(10));
+        assert_eq!(rt; read_over(SEVENS, samples), (Err(10), SEVENS));
     }
 }
 
@@ -300,25 +277,22 @@ fn bad_samples(rt: HostRuntime) {
         b"\t0\t1\t2\t65536",
         b"\t0\t1\t2\t3\r",
     ] {
-        assert_eq!(rt; samples_refusal(samples), Some(11));
+        assert_eq!(rt; read_over(SEVENS, samples), (Err(11), SEVENS));
     }
 }
 
 #[test]
 fn scratch_blocks(rt: HostRuntime) {
     let mut levels = NINES;
-    assert_eq!(rt; fill_levels(b"\t15\t-7", &mut levels), Ok(()));
+    assert_eq!(rt; fill_block(b"\t15\t-7", &mut levels), Ok(()));
     assert_eq!(rt; levels, [0, 0, 0, 0, 0, 0, 0, 0, 0, 0, 0, 0, 0, 0, 0, -7]);
-    assert_eq!(rt; number_of(fill_levels(b"\t15", &mut levels)), 10);
-    assert_eq!(rt; number_of(fill_levels(b"\t16\t1", &mut levels)), 11);
+    assert_eq!(rt; refusal(fill_block(b"\t15", &mut levels)), Some(10));
+    assert_eq!(rt; refusal(fill_block(b"\t16\t1", &mut levels)), Some(11));
     let mut samples = SEVENS;
-    assert_eq!(rt; fill_samples(b"\t3\t2\t1\t255", &mut samples), Ok(()));
+    assert_eq!(rt; fill_block(b"\t3\t2\t1\t255", &mut samples), Ok(()));
     assert_eq!(rt; samples, [3, 2, 1, 255]);
-    assert_eq!(rt; number_of(fill_samples(b"\t3\t2\t1", &mut samples)), 10);
-    assert_eq!(rt;
-        number_of(fill_samples(b"\t3\t2\t1\t256", &mut samples)),
-        11
-    );
+    assert_eq!(rt; refusal(fill_block(b"\t3\t2\t1", &mut samples)), Some(10));
+    assert_eq!(rt; refusal(fill_block(b"\t3\t2\t1\t256", &mut samples)), Some(11));
 }
 
 #[test]
@@ -459,7 +433,7 @@ fn written_leaves_are_read_back(rt: HostRuntime) -> Result<(), Fail> {
         return Err(Fail::new("no transform leaf was read"));
     };
     let mut levels = [9; 4];
-    assert_eq!(rt; read_levels(pairs, &mut levels), Ok(()));
+    assert_eq!(rt; read_block(pairs, &mut levels), Ok(()));
     assert_eq!(rt; levels, [5, 0, -6, 0]);
     let out = written_samples([255, 0, 16, 1]);
     let (line, _) = read_line(&out[3..])?;
@@ -467,7 +441,7 @@ fn written_leaves_are_read_back(rt: HostRuntime) -> Result<(), Fail> {
         return Err(Fail::new("no raw leaf was read"));
     };
     let mut block = SEVENS;
-    assert_eq!(rt; read_samples(samples, &mut block), Ok(()));
+    assert_eq!(rt; read_block(samples, &mut block), Ok(()));
     assert_eq!(rt; block, [255, 0, 16, 1]);
     Ok(())
 }

@@ -1,23 +1,31 @@
-use Rattle.std.proofs.Common.{◌≡◌, ◌<◌, length, get_or, sym, ap, ◌∙◌, arith}
+use Rattle.std.proofs.Common.{◌≡◌, ◌<◌, length, get_or, ap, ◌∙◌, rules, arith}
+use Rattle.std.proofs.lemmas.Int.{ints}
 use Rattle.std.proofs.lemmas.List.{take_rest}
-use Rattle.film.specs.Numbers.{minus, plus, number_below}
-use Rattle.film.proofs.Numerals.{level_minus, level_plus}
-use Rattle.film.proofs.Splits.{not_empty, nothing_follows}
+use Rattle.film.specs.Numbers.{number_below}
+use Rattle.film.proofs.Numerals.{minus_none, minus_some, plus_none, plus_some}
 use Rattle.film.proofs.number.level_in.Goals as goal
-use Rattle.film.proofs.number.level_in.Goals.{else-not-is_empty-via-then-not-is_empty+else-field-eq45, else-not-is_empty-via-else-not-is_empty}
+use Rattle.film.proofs.number.level_in.Goals.{in_default-via-then-field-lt1, in_default-via-else-field-lt1+in_default-1}
 
-pub returns-then-field-eq45 : goal.returns-then-field-eq45
-returns-then-field-eq45 c =
-    let bs = c.args.field.now in
-    let some = not_empty bs c.is_empty.result c.is_empty.ensures c.if-not-is_empty.true in
-    c.minus.ensures ∙ ap minus (c.number_below.ensures.is ∙ ap (number_below 32769) (take_rest bs 1)) ∙ sym (level_minus bs some c.if-field-eq45.true)
+pub returns-in_err-number_below-in-45 : goal.returns-in_err-number_below-in-45
+returns-in_err-number_below-in-45 c =
+    rw c.from_residual.ensures
+    (minus_none c.args.field.now (omega (arith, c.in-45.len_at_least)) (search rules) (c.in_err-number_below-in-45.ensures.is ∙ ap (number_below 32769) (take_rest c.args.field.now 1)))
 
-pub returns-else-not-is_empty : goal.returns-else-not-is_empty
-returns-else-not-is_empty c =
-    let bs = c.args.field.now in
-    let plain : 0 < length bs → get_or bs 0 0 ≡ 45 → ⊥ =
-    elim c.else-not-is_empty.branch [
-      | else-not-is_empty-via-then-not-is_empty+else-field-eq45 w ↦ λ some. w.if-field-eq45.false
-      | else-not-is_empty-via-else-not-is_empty w ↦ λ some e. omega (arith, some, nothing_follows bs c.is_empty.result c.is_empty.ensures w.if-not-is_empty.false)
-    ] in
-    c.plus.ensures ∙ ap plus c.number_below-else-not-is_empty.ensures.is ∙ sym (level_plus bs plain)
+pub returns-in_ok-number_below-in-45 : goal.returns-in_ok-number_below-in-45
+returns-in_ok-number_below-in-45 c =
+    let ok = c.in_ok-number_below-in-45 in
+    minus_some c.args.field.now (omega (arith, c.in-45.len_at_least)) (search rules) ok.field-0 _ c.unless_zero.result
+    (ok.ensures.is ∙ ap (number_below 32769) (take_rest c.args.field.now 1)) (omega (arith, ints, ok.ensures.below)) c.unless_zero.ensures
+
+pub returns-in_err-number_below-in_default : goal.returns-in_err-number_below-in_default
+returns-in_err-number_below-in_default c =
+    let plain : 0 < length c.args.field.now → get_or c.args.field.now 0 0 ≡ 45 → ⊥ =
+    elim c.in_default.branch [ in_default-via-then-field-lt1 w ↦ λ h e. search rules | in_default-via-else-field-lt1+in_default-1 w ↦ λ h e. search rules ] in
+    rw c.from_residual-in_err-number_below-in_default.ensures (plus_none c.args.field.now plain c.in_err-number_below-in_default.ensures.is)
+
+pub returns-in_ok-number_below-in_default : goal.returns-in_ok-number_below-in_default
+returns-in_ok-number_below-in_default c =
+    let plain : 0 < length c.args.field.now → get_or c.args.field.now 0 0 ≡ 45 → ⊥ =
+    elim c.in_default.branch [ in_default-via-then-field-lt1 w ↦ λ h e. search rules | in_default-via-else-field-lt1+in_default-1 w ↦ λ h e. search rules ] in
+    let ok = c.in_ok-number_below-in_default in
+    plus_some c.args.field.now plain ok.field-0 _ c.unless_zero-in_default.result ok.ensures.is (omega (arith, ints, ok.ensures.below)) c.unless_zero-in_default.ensures

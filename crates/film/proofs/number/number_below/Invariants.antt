@@ -2,5 +2,5 @@ use Rattle.std.proofs.Common.{◌≡◌, take}
 use Rattle.std.specs.Str.Parse.{digits_value, AllDigits}
 use Rattle.film.proofs.number.number_below.Given as goal
 
-abbrev pub invariant-loop-b : goal.invariant-loop-b
-invariant-loop-b l = (l.n ≡ digits_value 10 (take l.b-index l.field)) × AllDigits 10 (take l.b-index l.field)
+abbrev pub invariant-loop-byte : goal.invariant-loop-byte
+invariant-loop-byte l = (l.number ≡ digits_value 10 (take l.byte-index l.field)) × AllDigits 10 (take l.byte-index l.field)

@@ -3,9 +3,7 @@ use Rattle.film.specs.Films.{line_count}
 use Rattle.film.proofs.Wholes.{count_from}
 use Rattle.film.proofs.reading.count_lines.Given as goal
 
-abbrev pub invariant-loop-rest : goal.invariant-loop-rest
-invariant-loop-rest l =
-    (count_from l.count (line_count (length l.rest) l.rest) ≡ line_count (length l.text) l.text) × (l.count + length l.rest ≤ length l.text)
-
-abbrev pub decreases-loop-rest : goal.decreases-loop-rest
-decreases-loop-rest l = length l.rest
+abbrev pub invariant-loop-line : goal.invariant-loop-line
+invariant-loop-line l =
+    let rest = l.line-iterator.0.now in
+    (count_from l.count (line_count (length rest) rest) ≡ line_count (length l.text) l.text) × (l.count + length rest ≤ length l.text)
