@@ -1,5 +1,5 @@
 -- The one outcome of each call: a refusal, judged in the order 31, 32, 33, 34, or what is written. Assumes nothing.
-use Rattle.std.specs.Prelude.{ℕ, ◌*◌, Bool, cond, ◌&&◌, List, length, ℤ, Some, None, Ok, Err, Option, Result, ◌==◌}
+use Rattle.std.specs.Prelude.{ℕ, ◌*◌, Bool, cond, ◌&&◌, List, length, ℤ, codes, Some, None, Ok, Err, Option, Result, ◌==◌}
 use Rattle.transform.specs.declared.fault.Fault.{Fault}
 use Rattle.transform.specs.declared.fault.Fault.TheVariants.{BadShape, NotUsable, OutOfRange, NothingRebuilt}
 use Rattle.transform.specs.Meaning.{Rules, sided, residuals, shorts}
@@ -10,6 +10,13 @@ number BadShape = 31
 number NotUsable = 32
 number OutOfRange = 33
 number (NothingRebuilt standard side) = 34
+
+-- its text for people
+abbrev pub message : Fault → List ℕ
+message BadShape = codes "no side of a block, or not side times side values"
+message NotUsable = codes "the standard does not have this side or this step"
+message OutOfRange = codes "a residual or a level is out of range"
+message (NothingRebuilt standard side) = codes "the levels rebuild to nothing that the standard allows"
 
 -- a side, with a block given and a block to write that are both side · side long
 abbrev pub shaped : ℕ → ℕ → ℕ → Bool

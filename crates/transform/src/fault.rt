@@ -1,6 +1,9 @@
 // Why a transform refuses.
-ghost use Rattle.std.specs.Prelude.{◌≡◌};
-ghost use Rattle.transform.specs.Outcome.{number};
+ghost use Rattle.std.specs.Prelude.{◌≡◌, Some};
+ghost use Rattle.transform.specs.Outcome.{number, message};
+
+use std::error::Error;
+use std::fmt;
 
 #[derive(Clone, Copy, PartialEq, Eq, Debug)]
 pub enum Fault {
@@ -26,3 +29,19 @@ impl Fault {
         }
     }
 }
+
+impl fmt::Display for Fault {
+    ghost output = { λ fault. Some (message fault) };
+
+    fn fmt<W: fmt::Write>(&self, f: &mut fmt::Formatter<W>) -> fmt::Result {
+        f.write_str(match self {
+            Fault::BadShape => "no side of a block, or not side times side values",
+            Fault::NotUsable => "the standard does not have this side or this step",
+            Fault::OutOfRange => "a residual or a level is out of range",
+            Fault::NothingRebuilt { .. } =>
+                "the levels rebuild to nothing that the standard allows",
+        })
+    }
+}
+
+impl Error for Fault {}
