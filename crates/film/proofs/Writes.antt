@@ -12,7 +12,8 @@ use Rattle.film.specs.Fields.{tabbed}
 use Rattle.film.specs.Leaves.{nonzeros, pair_fields}
 use Rattle.film.specs.declared.cursor.Cursor.{Cursor}
 use Rattle.film.specs.declared.field.Field.{Field}
-use Rattle.film.specs.Texts.{Entry, split, levels, raw, text_of, field_text, tabbed_text, line_text, overwritten, cell_text, Put, HasRoom, Puts}
+use Rattle.film.specs.Texts.{Entry, split, levels, raw, text_of, overwritten, cell_text, Put}
+use Rattle.film.specs.Writing.{field_text, tabbed_text, line_text, HasRoom, Puts}
 
 -- what stands before the end of a written text, and what after it
 take_overwritten : (at : ℕ) (t xs : List ℕ) → at + length t ≤ length xs → take (at + length t) (overwritten at t xs) ≡ take at xs ++ t

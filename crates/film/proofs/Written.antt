@@ -1,7 +1,8 @@
 -- What each writer promises of its line, while a cursor still holds the memory. Assumes nothing.
 use Rattle.std.proofs.Common.{◌≡◌, ℕ, List, sym}
 use Rattle.film.specs.declared.cursor.Cursor.{Cursor}
-use Rattle.film.specs.Texts.{Entry, text_of, Put, HasRoom, Puts}
+use Rattle.film.specs.Texts.{Entry, text_of, Put}
+use Rattle.film.specs.Writing.{HasRoom, Puts}
 use Rattle.film.specs.Films.{ReadsAt, ReadsBack}
 use Rattle.film.proofs.Trips.{Legal, reads_back, found_at}
 use Rattle.film.proofs.Writes.{puts_as}
