@@ -159,8 +159,3 @@ tabbed_fields (x ∷ xs) h = tabbed_tabs xs ∙ ap (λ y. y ∷ xs) (sym (eqb-tr
 pub begun_tabbed : (fs : List (List ℕ)) → begun (tabbed fs []) ≡ true
 begun_tabbed [] = refl
 begun_tabbed (f ∷ fs) = refl
-
--- more fields behind
-pub tabbed_append : (fs gs : List (List ℕ)) (end : List ℕ) → tabbed (fs ++ gs) end ≡ tabbed fs (tabbed gs end)
-tabbed_append [] gs end = refl
-tabbed_append (f ∷ fs) gs end = ap (λ t. 9 ∷ (f ++ t)) (tabbed_append fs gs end)

@@ -12,7 +12,8 @@ use Rattle.film.specs.Fields.{tabbed}
 use Rattle.film.specs.Leaves.{nonzeros, pair_fields}
 use Rattle.film.specs.declared.cursor.Cursor.{Cursor}
 use Rattle.film.specs.declared.field.Field.{Field}
-use Rattle.film.specs.Texts.{Entry, split, levels, raw, text_of, field_text, tabbed_text, line_text, overwritten, cell_text, Put, HasRoom, Puts}
+use Rattle.film.specs.Texts.{Entry, split, levels, raw, text_of, overwritten, cell_text, Put}
+use Rattle.film.specs.Writing.{field_text, tabbed_text, line_text, HasRoom, Puts}
 
 -- what stands before the end of a written text, and what after it
 take_overwritten : (at : ℕ) (t xs : List ℕ) → at + length t ≤ length xs → take (at + length t) (overwritten at t xs) ≡ take at xs ++ t
@@ -34,25 +35,12 @@ overwritten_twice : (at : ℕ) (a b xs : List ℕ) → at + length a ≤ length 
 overwritten_twice at a b xs h =
     rw (take_overwritten at a xs h, drop_overwritten at a xs (length b) h, length-append, append_assoc, append_assoc, add_assoc) refl
 
--- nothing, a byte, bytes, and one text after another
-pub put_none : (at : ℕ) (xs : List ℕ) → Put at [] xs at xs
-put_none at xs = record { next = omega arith; text = sym (rw add-zero (take-append-drop at xs)) }
-
-pub put_byte : (at b : ℕ) (xs : List ℕ) → at < length xs → Put at (b ∷ []) xs (at + 1) (set xs at b)
-put_byte at b xs h = record { next = refl; text = set_split xs at b h ∙ rw add-one refl }
-
-pub put_part : (at k : ℕ) (bs xs : List ℕ) → k ≡ length bs → Put at bs xs (at + length bs) (put_mid at k xs bs)
-put_part at k bs xs e = record { next = refl; text = ap (λ ys. take at xs ++ (bs ++ ys)) (drop-drop k at xs ∙ ap (λ n. drop (at + n) xs) e) }
-
-pub put_then : {at m r : ℕ} {a b xs ys zs : List ℕ} → Put at a xs m ys → Put m b ys r zs → at + length a ≤ length xs → Put at (a ++ b) xs r zs
+-- one text after another
+put_then : {at m r : ℕ} {a b xs ys zs : List ℕ} → Put at a xs m ys → Put m b ys r zs → at + length a ≤ length xs → Put at (a ++ b) xs r zs
 put_then {at} {m} {r} {a} {b} {xs} {ys} {zs} p q h = record {
   next = omega (arith, p.next, q.next, length-append a b);
   text = q.text ∙ ap (λ y. overwritten m b y) p.text ∙ ap (λ k. overwritten k b (overwritten at a xs)) p.next ∙ overwritten_twice at a b xs h;
 }
-
--- the same text by another name
-pub put_as : {at r : ℕ} {a b xs ys : List ℕ} → a ≡ b → Put at a xs r ys → Put at b xs r ys
-put_as {at} {r} {a} {b} {xs} {ys} e p = subst (λ t. Put at t xs r ys) e p
 
 -- a cursor's texts one after another
 pub room_then : {a b : List ℕ} {x y : Cursor} → Puts a x y → HasRoom (a ++ b) x → HasRoom b y
@@ -97,19 +85,20 @@ parts_then part xs i d {x} {y} {z} h p q r =
     puts_as (sym (parts_more part xs i d h))
     (puts_then p q (record { room = omega (arith, r.room, length-flat_map-take part xs i d h, length-append (flat_map part (take i xs)) (part (get_or xs i d))) }))
 
--- the room for the first of two texts
-pub room_first : (a b : List ℕ) {x : Cursor} → HasRoom (a ++ b) x → HasRoom a x
-room_first a b {x} h = record { room = omega (arith, h.room, length-append a b) }
+-- a line is a letter, what stands in it, and its end: the room for each, and all three
+pub line_start : {t : List ℕ} (m : List ℕ) {l : ℕ} {x : Cursor} → t ≡ (l ∷ []) ++ (m ++ (10 ∷ [])) → HasRoom t x → HasRoom (l ∷ []) x
+line_start {t} m {l} {x} e h = record { room = omega (arith, h.room, ap length e) }
 
--- a letter, what stands in the line, and its end
-pub line_room : {l : ℕ} (m : List ℕ) {x y : Cursor} → Puts (l ∷ []) x y → HasRoom ((l ∷ []) ++ (m ++ (10 ∷ []))) x → HasRoom m y
-line_room m p h = room_first m (10 ∷ []) (room_then p h)
+pub line_room : {t m : List ℕ} {l : ℕ} {x y : Cursor} → t ≡ (l ∷ []) ++ (m ++ (10 ∷ [])) → HasRoom t x → Puts (l ∷ []) x y → HasRoom m y
+line_room {t} {m} {l} {x} {y} e h p =
+    let r : HasRoom (m ++ (10 ∷ [])) y = room_then p (room_as e h) in
+    record { room = omega (arith, r.room, length-append m (10 ∷ [])) }
 
-pub line_end : {l : ℕ} {m : List ℕ} {x y z : Cursor} → Puts (l ∷ []) x y → Puts m y z → HasRoom ((l ∷ []) ++ (m ++ (10 ∷ []))) x → HasRoom (10 ∷ []) z
-line_end p q h = room_then q (room_then p h)
+pub line_end : {t m : List ℕ} {l : ℕ} {x y z : Cursor} → t ≡ (l ∷ []) ++ (m ++ (10 ∷ [])) → HasRoom t x → Puts (l ∷ []) x y → Puts m y z → HasRoom (10 ∷ []) z
+line_end e h p q = room_then q (room_then p (room_as e h))
 
-pub line_whole : {l : ℕ} {m : List ℕ} {x y z w : Cursor} → Puts (l ∷ []) x y → Puts m y z → Puts (10 ∷ []) z w → HasRoom ((l ∷ []) ++ (m ++ (10 ∷ []))) x → Puts ((l ∷ []) ++ (m ++ (10 ∷ []))) x w
-line_whole p q r h = puts_then p (puts_then q r (room_then p h)) h
+pub line_whole : {t m : List ℕ} {l : ℕ} {x y z w : Cursor} → t ≡ (l ∷ []) ++ (m ++ (10 ∷ [])) → HasRoom t x → Puts (l ∷ []) x y → Puts m y z → Puts (10 ∷ []) z w → Puts t x w
+line_whole e h p q r = let h = room_as e h in puts_as (sym e) (puts_then p (puts_then q r (room_then p h)) h)
 
 pub text_line : (letter : ℕ) (fs : List Field) → line_text letter fs ≡ (letter ∷ []) ++ (flat_map tabbed_text fs ++ (10 ∷ []))
 text_line letter fs = ap (λ t. letter ∷ t) (tabbed_parts field_text fs (10 ∷ []))

@@ -6,4 +6,5 @@ pub mod Numbers
 pub mod Leaves
 pub mod Lines
 pub mod Texts
+pub mod Writing
 pub mod Films

@@ -1,10 +1,6 @@
 -- What lines say, and the text of each. Assumes nothing.
-use Rattle.std.specs.Prelude.{◌≡◌, ℕ, ◌+◌, ◌≤◌, List, [], ◌∷◌, ◌++◌, map, length, take, drop, ℤ, decimal}
-use Rattle.std.specs.Fmt.{signed_decimal}
+use Rattle.std.specs.Prelude.{◌≡◌, ℕ, ◌+◌, List, [], ◌∷◌, ◌++◌, map, length, take, drop, ℤ, decimal}
 use Rattle.film.specs.declared.setting.Setting.{Setting}
-use Rattle.film.specs.declared.field.Field.{Field}
-use Rattle.film.specs.declared.field.Field.TheVariants.{Name, Number, Level}
-use Rattle.film.specs.declared.cursor.Cursor.{Cursor}
 use Rattle.film.specs.Standards.{name_of}
 use Rattle.film.specs.Fields.{letter_m, letter_q, letter_s, letter_t, letter_r, tabbed}
 use Rattle.film.specs.Leaves.{nonzeros, pair_fields}
@@ -45,26 +41,6 @@ cell_text i z = tabbed (pair_fields (nonzeros i (z ∷ []))) []
 unfoldable pub text_of : Entry → List ℕ
 text_of e = letter_of e ∷ tabbed (fields_of e) (10 ∷ [])
 
--- the text of a field that is written
-abbrev pub field_text : Field → List ℕ
-field_text (Name standard) = name_of standard
-field_text (Number n) = decimal n
-field_text (Level z) = signed_decimal z
-
--- the same with the tab before it
-abbrev pub tabbed_text : Field → List ℕ
-tabbed_text f = 9 ∷ field_text f
-
--- no field that is written is longer, with its tab
-abbrev pub widest : Field → ℕ
-widest (Name standard) = 5
-widest (Number n) = 6
-widest (Level z) = 12
-
--- a letter, the fields, each with a tab before it, and byte 10
-abbrev pub line_text : ℕ → List Field → List ℕ
-line_text letter fs = letter ∷ tabbed (map field_text fs) (10 ∷ [])
-
 -- xs with a text put over it from a place on
 abbrev pub overwritten : ℕ → List ℕ → List ℕ → List ℕ
 overwritten at text xs = take at xs ++ (text ++ drop (at + length text) xs)
@@ -73,12 +49,3 @@ overwritten at text xs = take at xs ++ (text ++ drop (at + length text) xs)
 pub record Put (at : ℕ) (t xs : List ℕ) (r : ℕ) (ys : List ℕ) : Type 0 where
   pub next : r ≡ at + length t
   pub text : ys ≡ overwritten at t xs
-
--- the memory from a cursor's place on has room for a text
-pub record HasRoom (t : List ℕ) (c : Cursor) : Type 0 where
-  pub room : c.at + length t ≤ length c.out.now
-
--- the text was put into the cursor's memory at its place, and its place is the one behind it
-pub record Puts (t : List ℕ) (before after : Cursor) : Type 0 where
-  pub memory : after.out.ghost_name ≡ before.out.ghost_name
-  pub put : Put before.at t before.out.now after.at after.out.now

@@ -1,6 +1,7 @@
 // Lent memory, and the place in it at which the next byte is written.
 ghost use Rattle.std.specs.Prelude.{[], ◌∷◌, flat_map};
-ghost use Rattle.film.specs.Texts.{tabbed_text, line_text, cell_text, HasRoom, Puts};
+ghost use Rattle.film.specs.Texts.{cell_text};
+ghost use Rattle.film.specs.Writing.{tabbed_text, line_text, HasRoom, Puts};
 
 use crate::cutting::{NEWLINE, TAB};
 use crate::field::Field;

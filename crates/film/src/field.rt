@@ -1,6 +1,6 @@
 // The fields of lines that are written.
 ghost use Rattle.std.specs.Prelude.{◌≡◌, ◌+◌, ◌≤◌, length};
-ghost use Rattle.film.specs.Texts.{field_text, tabbed_text, widest};
+ghost use Rattle.film.specs.Writing.{field_text, tabbed_text, widest};
 
 use crate::standard::Standard;
 use itoa::Buffer;

@@ -21,7 +21,7 @@ pub use line::Line;
 pub use number::{read_level, read_number};
 pub use reading::{count_lines, read_line};
 pub use setting::Setting;
-pub use standard::{Standard, UnknownName, UnknownNumber};
+pub use standard::{Standard, UnknownStandard};
 pub use writing::{
     levels_len, samples_len, setting_len, split_len, square_len, write_levels, write_samples,
     write_setting, write_split, write_square,

@@ -1,5 +1,5 @@
 // The three standards, by number and by name.
-ghost use Rattle.std.specs.Prelude.{◌≡◌, ◌++◌, Some, codes, decimal, IfErr};
+ghost use Rattle.std.specs.Prelude.{◌≡◌, Some, codes};
 ghost use Rattle.std.specs.Result.{result_ok};
 ghost use Rattle.film.specs.Standards.{name_of, numbered, named, IsNumberOf};
 
@@ -13,13 +13,9 @@ pub enum Standard {
     Vc1,
 }
 
-// A number that no standard has.
+// A number or a name that no standard has.
 #[derive(Clone, Copy, PartialEq, Eq, Debug)]
-pub struct UnknownNumber(pub u32);
-
-// Bytes that are no standard's name.
-#[derive(Clone, Copy, PartialEq, Eq, Debug)]
-pub struct UnknownName;
+pub struct UnknownStandard;
 
 impl Standard {
     // The name that stands in a film.
@@ -50,50 +46,40 @@ impl From<Standard> for u32 {
 
 // The standard of a number.
 impl TryFrom<u32> for Standard {
-    type Error = UnknownNumber;
+    type Error = UnknownStandard;
 
-    ghost try_from_gives = { λ n r. (result_ok r ≡ numbered n) × IfErr r (λ e. e.0 ≡ n) };
+    ghost try_from_gives = { λ n r. result_ok r ≡ numbered n };
 
-    fn try_from(number: u32) -> Result<Standard, UnknownNumber> {
+    fn try_from(number: u32) -> Result<Standard, UnknownStandard> {
         match number {
             0 => Ok(Standard::Hevc),
             1 => Ok(Standard::H264),
             2 => Ok(Standard::Vc1),
-            _ => Err(UnknownNumber(number)),
+            _ => Err(UnknownStandard),
         }
     }
 }
 
 // The standard of a name: the one whose `name` gives these bytes.
 impl TryFrom<&[u8]> for Standard {
-    type Error = UnknownName;
+    type Error = UnknownStandard;
 
     ghost try_from_gives = { λ name r. result_ok r ≡ named name.now };
 
-    fn try_from(name: &[u8]) -> Result<Standard, UnknownName> {
+    fn try_from(name: &[u8]) -> Result<Standard, UnknownStandard> {
         [Standard::Hevc, Standard::H264, Standard::Vc1]
             .into_iter()
             .find(|standard| standard.name() == name)
-            .ok_or(UnknownName)
+            .ok_or(UnknownStandard)
     }
 }
 
-impl fmt::Display for UnknownNumber {
-    ghost output = { λ e. Some (codes "no standard has the number " ++ decimal e.0) };
+impl fmt::Display for UnknownStandard {
+    ghost output = { λ _. Some (codes "the standard is unknown") };
 
     fn fmt<W: fmt::Write>(&self, f: &mut fmt::Formatter<W>) -> fmt::Result {
-        write!(f, "no standard has the number {}", self.0)
+        f.write_str("the standard is unknown")
     }
 }
 
-impl fmt::Display for UnknownName {
-    ghost output = { λ _. Some (codes "no standard has this name") };
-
-    fn fmt<W: fmt::Write>(&self, f: &mut fmt::Formatter<W>) -> fmt::Result {
-        f.write_str("no standard has this name")
-    }
-}
-
-impl Error for UnknownNumber {}
-
-impl Error for UnknownName {}
+impl Error for UnknownStandard {}

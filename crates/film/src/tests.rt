@@ -1,6 +1,6 @@
 // Good and bad texts, each with its number; lines written among bytes that stay.
 use crate::{
-    Fault, Line, Setting, Standard, UnknownName, UnknownNumber, Value, count_lines, fill_block, levels_len,
+    Fault, Line, Setting, Standard, UnknownStandard, Value, count_lines, fill_block, levels_len,
     read_block, read_level, read_line, read_number, samples_len, setting_len, split_len, square_len,
     write_levels, write_samples, write_setting, write_split, write_square,
 };
@@ -300,10 +300,19 @@ fn names(rt: HostRuntime) {
     assert_eq!(rt; Standard::try_from(b"HEVC".as_slice()), Ok(Standard::Hevc));
     assert_eq!(rt; Standard::try_from(b"H264".as_slice()), Ok(Standard::H264));
     assert_eq!(rt; Standard::try_from(b"VC1".as_slice()), Ok(Standard::Vc1));
-    assert_eq!(rt; Standard::try_from(b"hevc".as_slice()), Err(UnknownName));
-    assert_eq!(rt; Standard::try_from(b"VC-1".as_slice()), Err(UnknownName));
-    assert_eq!(rt; Standard::try_from(b"HEVC ".as_slice()), Err(UnknownName));
-    assert_eq!(rt; Standard::try_from(b"".as_slice()), Err(UnknownName));
+    assert_eq!(rt;
+        Standard::try_from(b"hevc".as_slice()),
+        Err(UnknownStandard)
+    );
+    assert_eq!(rt;
+        Standard::try_from(b"VC-1".as_slice()),
+        Err(UnknownStandard)
+    );
+    assert_eq!(rt;
+        Standard::try_from(b"HEVC ".as_slice()),
+        Err(UnknownStandard)
+    );
+    assert_eq!(rt; Standard::try_from(b"".as_slice()), Err(UnknownStandard));
     assert_eq!(rt; Standard::Hevc.name(), b"HEVC".as_slice());
     assert_eq!(rt; Standard::H264.name(), b"H264".as_slice());
     assert_eq!(rt; Standard::Vc1.name(), b"VC1".as_slice());
@@ -314,10 +323,13 @@ fn standards_by_number(rt: HostRuntime) {
     assert_eq!(rt; Standard::try_from(0), Ok(Standard::Hevc));
     assert_eq!(rt; Standard::try_from(1), Ok(Standard::H264));
     assert_eq!(rt; Standard::try_from(2), Ok(Standard::Vc1));
-    assert_eq!(rt; Standard::try_from(3), Err(UnknownNumber(3)));
+    assert_eq!(rt; Standard::try_from(3), Err(UnknownStandard));
     assert_eq!(rt; u32::from(Standard::Hevc), 0);
     assert_eq!(rt; u32::from(Standard::H264), 1);
     assert_eq!(rt; u32::from(Standard::Vc1), 2);
+    let number: u32 = Standard::Vc1.into();
+    let standard: Result<Standard, UnknownStandard> = number.try_into();
+    assert_eq!(rt; standard, Ok(Standard::Vc1));
 }
 
 #[test]

@@ -4,7 +4,8 @@
 ghost use Rattle.std.specs.Prelude.{◌≡◌, ◌+◌, ◌*◌, ◌≤◌, true, length, flat_map, sum_by};
 ghost use Rattle.transform.specs.Meaning.{shorts};
 ghost use Rattle.film.specs.Fields.{letter_m, letter_q};
-ghost use Rattle.film.specs.Texts.{square, split, levels, raw, text_of, of_setting, cell_text, tabbed_text, line_text, widest, Put};
+ghost use Rattle.film.specs.Texts.{square, split, levels, raw, text_of, of_setting, cell_text, Put};
+ghost use Rattle.film.specs.Writing.{tabbed_text, line_text, widest};
 ghost use Rattle.film.specs.Films.{ReadsBack, ReadsAt};
 
 use crate::cursor::Cursor;

@@ -6,7 +6,7 @@ ghost use Rattle.transform.specs.Meaning.{sided};
 ghost use Rattle.vectors.specs.Agreement.{Fills, Whole};
 
 use crate::case::Case;
-use film::{Standard, UnknownName};
+use film::{Standard, UnknownStandard};
 use std::alloc::{AllocError, AllocFailed, Global};
 use std::num::ParseIntError;
 use transform::is_side;
@@ -38,8 +38,8 @@ impl From<ParseIntError> for Misread {
     }
 }
 
-impl From<UnknownName> for Misread {
-    fn from(_e: UnknownName) -> Misread {
+impl From<UnknownStandard> for Misread {
+    fn from(_e: UnknownStandard) -> Misread {
         Misread::Form
     }
 }

@@ -1,6 +1,6 @@
 use Rattle.std.proofs.Common.{◌≡◌, ◌≤◌, length, take}
 use Rattle.std.specs.List.{flat_map, sum_by}
-use Rattle.film.specs.Texts.{tabbed_text, widest}
+use Rattle.film.specs.Writing.{tabbed_text, widest}
 use Rattle.film.proofs.writing.fields_len.Given as goal
 
 abbrev pub invariant-loop-field : goal.invariant-loop-field

@@ -1,6 +1,6 @@
 use Rattle.std.proofs.Common.{take}
 use Rattle.std.specs.List.{flat_map, enumerate_from}
-use Rattle.film.specs.Texts.{Puts}
+use Rattle.film.specs.Writing.{Puts}
 use Rattle.film.proofs.Writes.{placed_text}
 use Rattle.film.proofs.writing.write_levels.Given as goal
 

@@ -1,38 +1,39 @@
-use Rattle.std.proofs.Common.{◌≤◌, sym, ap, arith, rules}
+use Rattle.std.proofs.Common.{◌≤◌, sym, ap, refl, arith, rules}
 use Rattle.std.specs.List.{flat_map}
 use Rattle.std.proofs.ByRecursion.{All-from_get_or}
 use Rattle.std.proofs.lemmas.List.{take_all}
 use Rattle.film.specs.Texts.{raw}
-use Rattle.film.proofs.Writes.{sample_text, text_raw, room_first, room_as, puts_as, parts_room, parts_then, line_room, line_end, line_whole}
+use Rattle.film.proofs.Writes.{sample_text, text_raw, room_as, puts_as, parts_room, parts_then, line_start, line_room, line_end, line_whole}
 use Rattle.film.proofs.Written.{IsWritten, is_written}
 use Rattle.film.proofs.writing.write_samples.Goals as goal
 
 pub put-requires : goal.put-requires
-put-requires c = room_first _ _ (room_as (text_raw c.args.samples.now) (record { room = c.requires }))
+put-requires c = line_start _ (text_raw c.args.samples.now) (record { room = c.requires })
 
 pub put_field-requires : goal.put_field-requires
 put_field-requires c =
     let ss = c.args.samples.now in
-    room_as (ap sample_text (sym c.into.ensures))
-    (parts_room sample_text ss c.loop-sample.sample-index 0 c.loop-sample-test.true c.loop-sample.invariant (line_room _ c.put.ensures (room_as (text_raw ss) (record { room = c.requires }))))
+    let room = line_room (text_raw ss) (record { room = c.requires }) c.put.ensures in
+    room_as (ap sample_text (sym c.into.ensures)) (parts_room sample_text ss c.loop-sample.sample-index 0 c.loop-sample-test.true c.loop-sample.invariant room)
 
 pub loop-sample-preserved : goal.loop-sample-preserved
 loop-sample-preserved c =
     let ss = c.args.samples.now in
-    parts_then sample_text ss c.loop-sample.sample-index 0 c.loop-sample-test.true c.loop-sample.invariant (puts_as (ap sample_text c.into.ensures) c.put_field.ensures)
-    (line_room _ c.put.ensures (room_as (text_raw ss) (record { room = c.requires })))
+    let room = line_room (text_raw ss) (record { room = c.requires }) c.put.ensures in
+    let one = puts_as (ap sample_text c.into.ensures) c.put_field.ensures in
+    parts_then sample_text ss c.loop-sample.sample-index 0 c.loop-sample-test.true c.loop-sample.invariant one room
 
 pub put-requires-2 : goal.put-requires-2
 put-requires-2 c =
     let ss = c.args.samples.now in
-    line_end c.put.ensures (puts_as (ap (flat_map sample_text) (take_all c.loop-sample.sample-index ss (omega arith))) c.loop-sample.invariant) (room_as (text_raw ss) (record { room = c.requires }))
+    let all = puts_as (ap (flat_map sample_text) (take_all c.loop-sample.sample-index ss (omega arith))) c.loop-sample.invariant in
+    line_end (text_raw ss) (record { room = c.requires }) c.put.ensures all
 
 pub returns : goal.returns
 returns c =
     let ss = c.args.samples.now in
     let all = puts_as (ap (flat_map sample_text) (take_all c.loop-sample.sample-index ss (omega arith))) c.loop-sample.invariant in
     let legal = All-from_get_or (λ x. x ≤ 255) ss 0 (λ i l. omega (arith, (c.type_inv.samples i).fits)) in
-    let w : IsWritten (raw ss) _ c.put-2.new.self =
-    is_written (raw ss) legal (record { room = c.requires })
-    (puts_as (sym (text_raw ss)) (line_whole c.put.ensures all c.put-2.ensures (room_as (text_raw ss) (record { room = c.requires })))) in
+    let line = line_whole (text_raw ss) (record { room = c.requires }) c.put.ensures all c.put-2.ensures in
+    let w : IsWritten (raw ss) _ c.put-2.new.self = is_written (raw ss) refl legal (record { room = c.requires }) line in
     record { put = let p = w.put in search rules; back = w.back; found = let p = w.found in search rules }

@@ -1,6 +1,6 @@
-use Rattle.std.proofs.Common.{sym, arith, rules}
+use Rattle.std.proofs.Common.{arith, rules}
 use Rattle.film.specs.Texts.{of_setting}
-use Rattle.film.proofs.Writes.{room_as, puts_as}
+use Rattle.film.proofs.Writes.{room_as}
 use Rattle.film.proofs.Trips.{name_plain}
 use Rattle.film.proofs.Written.{IsWritten, is_written}
 use Rattle.film.proofs.writing.write_setting.Goals as goal
@@ -10,5 +10,5 @@ put_line-requires c = room_as c.setting_fields.ensures.text (record { room = c.r
 
 pub returns : goal.returns
 returns c =
-    let w : IsWritten (of_setting c.args.setting) _ c.put_line.new.self = is_written (of_setting c.args.setting) (name_plain c.args.setting.standard, omega arith, omega (arith, c.args.setting.tolerable)) (record { room = c.requires }) (puts_as (sym c.setting_fields.ensures.text) c.put_line.ensures) in
+    let w : IsWritten (of_setting c.args.setting) _ c.put_line.new.self = is_written (of_setting c.args.setting) c.setting_fields.ensures.text (name_plain c.args.setting.standard, omega arith, omega (arith, c.args.setting.tolerable)) (record { room = c.requires }) c.put_line.ensures in
     record { put = let p = w.put in search rules; back = w.back; found = let p = w.found in search rules }

@@ -1,6 +1,6 @@
-use Rattle.std.proofs.Common.{sym, arith, rules}
+use Rattle.std.proofs.Common.{arith, rules}
 use Rattle.film.specs.Texts.{square}
-use Rattle.film.proofs.Writes.{room_as, puts_as}
+use Rattle.film.proofs.Writes.{room_as}
 use Rattle.film.proofs.Written.{IsWritten, is_written}
 use Rattle.film.proofs.writing.write_square.Goals as goal
 
@@ -9,5 +9,5 @@ put_line-requires c = room_as c.square_fields.ensures.text (record { room = c.re
 
 pub returns : goal.returns
 returns c =
-    let w : IsWritten (square c.args.column c.args.row) _ c.put_line.new.self = is_written (square c.args.column c.args.row) (omega arith, omega arith) (record { room = c.requires }) (puts_as (sym c.square_fields.ensures.text) c.put_line.ensures) in
+    let w : IsWritten (square c.args.column c.args.row) _ c.put_line.new.self = is_written (square c.args.column c.args.row) c.square_fields.ensures.text (omega arith, omega arith) (record { room = c.requires }) c.put_line.ensures in
     record { put = let p = w.put in search rules; back = w.back; found = let p = w.found in search rules }

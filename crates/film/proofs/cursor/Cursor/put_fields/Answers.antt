@@ -1,6 +1,6 @@
 use Rattle.film.specs.declared.standard.Standard.TheVariants.{Hevc}
 use Rattle.film.specs.declared.field.Field.TheVariants.{Name}
-use Rattle.film.specs.Texts.{tabbed_text}
+use Rattle.film.specs.Writing.{tabbed_text}
 use Rattle.film.proofs.Writes.{parts_room, parts_then}
 use Rattle.film.proofs.cursor.Cursor.put_fields.Goals as goal
 
