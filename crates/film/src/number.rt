@@ -42,6 +42,7 @@ fn level_in(field: &[u8]) -> Option<i32>
     }
 }
 
+// A level is not 0.
 fn unless_zero(level: i32) -> Option<i32>
     ensures { MatchOption result (level ≡ pos 0) (λ z. (z ≡ level) × (level ≢ pos 0)) }
 {
