@@ -1,4 +1,4 @@
-// Numbers in fields.
+// Numbers in fields. A cast here loses nothing, which is proved; `try_from` would add an answer that no field gets.
 ghost use Rattle.std.specs.Prelude.{◌≡◌, ◌≢◌, ◌<◌, ◌≤◌, pos, IfOk, IfSome, MatchOption};
 ghost use Rattle.film.specs.Faults.{or_bad_field};
 ghost use Rattle.film.specs.Numbers.{number_below, number_in, level_in, position_in, OneForm, OneSignedForm};

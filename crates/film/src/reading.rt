@@ -44,6 +44,8 @@ fn parse<'a>(line: &'a [u8]) -> Result<Line<'a>, Fault>
     }
 }
 
+// These three ask for their fields one by one: a call that gives N of them as an array, for any N, gets no proof, since
+// the borrow checker does not cover an array of borrows that a loop fills.
 fn parse_setting<'a>(mut tail: Fields<'a>) -> Result<Line<'a>, Fault>
     ensures { parse_seen result ≡ m_line (fields tail.entry.rest.now) }
 {
@@ -118,6 +120,7 @@ pub fn count_lines(text: &[u8]) -> Result<usize, Fault>
     ensures lines { Counts text.now result }
     ensures alone { Alone text.now }
 {
+    // Counted here and not by a fold, whose closure would have to prove that the sum fits.
     let mut count = 0;
     for line in Lines(text) {
         line?;
