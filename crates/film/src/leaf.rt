@@ -1,6 +1,6 @@
 // The blocks of leaves, from the fields that follow their letters.
 ghost use Rattle.std.specs.Prelude.{◌≡◌, ℕ, List, Result, Err, pos, length, replicate, IfOk, MatchResult};
-ghost use Rattle.std.specs.List.{AllByRecursion as All};
+ghost use Rattle.std.specs.List.{AllByRecursion};
 ghost use Rattle.std.specs.Result.{result_unwrap_or};
 ghost use Rattle.film.specs.declared.fault.Fault.{Fault as Refusal};
 ghost use Rattle.film.specs.Fields.{fields};
@@ -117,7 +117,7 @@ impl<'a> Pairs<'a> {
         ensures reads { MatchResult result
             (λ s. levels_after count pairs.now ≡ spread_all (replicate count (pos 0)) (gathered (pair_reads s.from s.count (fields s.fields.rest.now))))
             (λ e. levels_after count pairs.now ≡ Err e) }
-        ensures within { IfOk result (λ s. All (IsWithin count) (pair_reads s.from s.count (fields s.fields.rest.now))) }
+        ensures within { IfOk result (λ s. AllByRecursion (IsWithin count) (pair_reads s.from s.count (fields s.fields.rest.now))) }
     {
         let fields = Fields::new(pairs)?;
         if fields.len() % 2 != 0 {
