@@ -105,10 +105,6 @@ odd_paired [] e = absurd (e refl)
 odd_paired (f ∷ []) e = refl
 odd_paired (f ∷ g ∷ fs) e = odd_paired fs (λ q. e (omega (arith, q)))
 
-pub paired_more : (f : List ℕ) (fs gs : List (List ℕ)) → gs ≡ f ∷ fs → paired gs ≡ None → 0 < length fs
-paired_more f [] gs e h = absurd (let k : ◌≡◌ {A = Option Fault} (Some BadLine) None = sym (ap paired e) ∙ h in let z : ◌≡◌ {A = ℕ} 0 1 = cc in omega arith)
-paired_more f (g ∷ fs) gs e h = omega arith
-
 odd_levels : (n : ℕ) (fs : List (List ℕ)) → (length fs % 2 ≡ 0 → ⊥) → levels_in n fs ≡ Err BadLine
 unfolding levels_in
 odd_levels n fs h = ap (λ o. unless o (spread_all (replicate n (pos 0)) (pairs_from 0 n fs))) (odd_paired fs h)

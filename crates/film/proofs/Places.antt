@@ -1,13 +1,15 @@
 -- Where a byte stands first, one step at a time. Assumes nothing.
-use Rattle.std.proofs.Common.{◌≡◌, ℕ, suc, ◌+◌, ◌-◌, ◌<◌, ◌≤◌, eqb, List, [], ◌∷◌, ◌++◌, length, get_or, take, drop, Some, None, Option, sym, refl, ap, ◌∙◌, subst, inl, inr, arith}
+use Rattle.std.proofs.Common.{◌≡◌, ℕ, suc, ◌+◌, ◌<◌, ◌≤◌, List, [], ◌∷◌, ◌++◌, length, get_or, take, drop, Some, None, Option, sym, refl, ap, ◌∙◌, arith}
 use Rattle.std.specs.List.{AllByRecursion as All, position_or_len}
 use Rattle.std.specs.Prelude.{◌==◌, Bool, true, false, cond, nat_lt}
 use Rattle.std.specs.List.{position}
 use Rattle.std.specs.Option.{option_map, unwrap_or}
 use Rattle.std.proofs.lemmas.List.Recursion.{is_position_or_len}
-use Rattle.std.proofs.lemmas.List.{take_rest, take-append-drop, drop_more, take_at, drop_at, length-append, append_assoc}
+use Rattle.std.proofs.lemmas.List.Sums.{passes_at_first, prefix_len-le-length}
+use Rattle.std.proofs.lemmas.Option.{cond_some}
+use Rattle.std.proofs.lemmas.List.{take-append-drop, drop_more, take_at, drop_at, length-append, append_assoc}
 use Rattle.std.proofs.lemmas.Bool.Decides.{nat_tests}
-use Rattle.std.proofs.lemmas.Bool.{eq-eqb, ne_eqb, lt-ltb, le-ltb, cond-true, cond-false, cases_Bool, cases_lt, eqb-true}
+use Rattle.std.proofs.lemmas.Bool.{ltb-true, eq-eqb, ne_eqb, lt-ltb, eqb-true}
 use Rattle.film.specs.Fields.{place, cut_at}
 
 -- the place in the library's words
@@ -22,47 +24,18 @@ cut_position b xs = simp place_is (by (nat_lt (position_or_len (λ x. x == b) xs
   by false i = refl
 
 pub place_le : (b : ℕ) (xs : List ℕ) → place b xs ≤ length xs
-place_le b [] = omega arith
-place_le b (x ∷ xs) =
-    elim (cases_Bool (eqb x b)) [
-      | inl e ↦ simp e (omega arith)
-      | inr e ↦ simp e (omega (arith, place_le b xs))
-    ]
+place_le b xs = rw place_is (prefix_len-le-length _ xs)
 
 -- and where nothing is found, all bytes stand before it
 pub place_found : (b : ℕ) (xs : List ℕ) → place b xs ≡ unwrap_or (position (λ x. x == b) xs) (length xs)
 place_found b xs = grind (arith, place_is, place_le, nat_tests)
 
-pub get_or_place : (b : ℕ) (xs : List ℕ) → place b xs < length xs → get_or xs (place b xs) 0 ≡ b
-get_or_place b [] h = absurd (omega arith)
-get_or_place b (x ∷ xs) h =
-    elim (cases_Bool (eqb x b)) [
-      | inl e ↦ rw e (eqb-true x b e)
-      | inr e ↦ let k : place b xs < length xs = omega (arith, simp e at h) in rw e (get_or_place b xs k)
-    ]
+get_or_place : (b : ℕ) (xs : List ℕ) → place b xs < length xs → get_or xs (place b xs) 0 ≡ b
+get_or_place b xs h = let e = place_is b xs in rw e (eqb-true _ b (passes_at_first (λ x. x == b) xs 0 (rw e at h)))
 
--- what a call cuts off, as the checker reads it
-pub cut_found : (b : ℕ) (xs : List ℕ) (i : ℕ) → i ≡ place b xs → i < length xs → Some (take i xs, take (length xs - (i + 1)) (drop (i + 1) xs)) ≡ cut_at b xs
-cut_found b xs i e h =
-    let t : place b xs < length xs = subst (λ n. n < length xs) e h in
-    simp (take_rest, e) (sym (cond-true _ _ _ (lt-ltb _ _ t)))
-
--- either there is a b, and the parts are those before and after it, or there is none
-pub cut_some : (b : ℕ) (xs l r : List ℕ) → cut_at b xs ≡ Some (l, r) → (place b xs < length xs) × (l ≡ take (place b xs) xs) × (r ≡ drop (place b xs + 1) xs)
-cut_some b xs l r e =
-    elim (cases_lt (place b xs) (length xs)) [
-      | inl h ↦
-          let f : ◌≡◌ {A = Option (List ℕ × List ℕ)} (Some (l, r)) (Some (take (place b xs) xs, drop (place b xs + 1) xs)) = sym e ∙ cond-true _ _ _ (lt-ltb _ _ h) in
-          (h, ap (λ o. elim o [ Some q ↦ q.0 | None ↦ l ]) f, ap (λ o. elim o [ Some q ↦ q.1 | None ↦ r ]) f)
-      | inr h ↦ let f : ◌≡◌ {A = Option (List ℕ × List ℕ)} None (Some (l, r)) = sym (cond-false _ _ _ (le-ltb _ _ h)) ∙ e in absurd (let z : ◌≡◌ {A = ℕ} 0 1 = cc in omega arith)
-    ]
-
-pub cut_none : (b : ℕ) (xs : List ℕ) → cut_at b xs ≡ None → length xs ≤ place b xs
-cut_none b xs e =
-    elim (cases_lt (place b xs) (length xs)) [
-      | inl h ↦ let f : ◌≡◌ {A = Option (List ℕ × List ℕ)} None (Some (take (place b xs) xs, drop (place b xs + 1) xs)) = sym e ∙ cond-true _ _ _ (lt-ltb _ _ h) in absurd (let z : ◌≡◌ {A = ℕ} 0 1 = cc in omega arith)
-      | inr h ↦ h
-    ]
+-- the parts are those before and after the first b
+cut_some : (b : ℕ) (xs l r : List ℕ) → cut_at b xs ≡ Some (l, r) → (place b xs < length xs) × (l ≡ take (place b xs) xs) × (r ≡ drop (place b xs + 1) xs)
+cut_some b xs l r e = let c = cond_some _ _ _ e in (ltb-true _ _ c.0, ap (λ p. p.0) (sym c.1), ap (λ p. p.1) (sym c.1))
 
 -- what was cut, put together
 pub cut_whole : (b : ℕ) (xs l r : List ℕ) → cut_at b xs ≡ Some (l, r) → l ++ (b ∷ r) ≡ xs

@@ -1,15 +1,15 @@
 -- The fields of a line, as they are cut off. Assumes nothing.
-use Rattle.std.proofs.Common.{◌≡◌, ℕ, suc, ◌+◌, ◌-◌, ◌<◌, ◌≤◌, Bool, true, false, eqb, List, [], ◌∷◌, ◌++◌, length, take, drop, Some, None, Err, sym, refl, ap, ◌∙◌, inl, inr, add-one, arith}
+use Rattle.std.proofs.Common.{◌≡◌, ℕ, suc, ◌+◌, ◌<◌, ◌≤◌, true, eqb, List, [], ◌∷◌, ◌++◌, length, take, drop, Err, sym, refl, ap, ◌∙◌, inl, inr, add-one, arith}
 use Rattle.std.specs.List.{AllByRecursion as All, position}
 use Rattle.std.specs.Option.{unwrap_or}
 use Rattle.std.specs.Prelude.{◌==◌}
-use Rattle.std.proofs.lemmas.List.{take_rest, drop_more, drop_all, take_all, append_assoc, append-nil}
-use Rattle.std.proofs.lemmas.Bool.{cases_Bool, cases_lt, ne_eqb, eqb-true, eqb-false}
+use Rattle.std.proofs.lemmas.List.{drop_more, drop_all, take_all, append_assoc, append-nil}
+use Rattle.std.proofs.lemmas.Bool.{cases_Bool, cases_lt, ne_eqb, eqb-true}
 use Rattle.film.specs.declared.fault.Fault.TheVariants.{BadLine}
-use Rattle.film.specs.Fields.{place, cut_at, onto, at_tabs, begun, fields, tabbed}
+use Rattle.film.specs.Fields.{place, onto, at_tabs, begun, fields, tabbed}
 use Rattle.film.specs.Leaves.{if_begun}
 use Rattle.film.specs.Lines.{by_letter, by_fields, parse}
-use Rattle.film.proofs.Places.{Free, place_found, cut_some, cut_none, place_free}
+use Rattle.film.proofs.Places.{Free, place_found, place_free}
 
 -- a first field and more, or one field alone
 pub tabs_at : (xs : List ℕ) → place 9 xs < length xs → at_tabs xs ≡ take (place 9 xs) xs ∷ at_tabs (drop (suc (place 9 xs)) xs)
@@ -28,13 +28,6 @@ tabs_last (x ∷ xs) h =
       | inr e ↦ let k : length xs ≤ place 9 xs = omega (arith, simp e at h) in simp (e, tabs_last xs k)
     ]
 
--- the same by what `cut` answers
-pub tabs_some : (xs a b : List ℕ) → Some (a, b) ≡ cut_at 9 xs → at_tabs xs ≡ a ∷ at_tabs b
-tabs_some xs a b e = let p = cut_some 9 xs a b (sym e) in rw (p.1, p.2, add-one) (tabs_at xs p.0)
-
-pub tabs_none : (xs : List ℕ) → None ≡ cut_at 9 xs → at_tabs xs ≡ xs ∷ []
-tabs_none xs e = tabs_last xs (cut_none 9 xs (sym e))
-
 -- there is always a first field
 pub tabs_first : (xs : List ℕ) → (f : List ℕ) × (fs : List (List ℕ)) × (at_tabs xs ≡ f ∷ fs)
 tabs_first xs =
@@ -42,30 +35,6 @@ tabs_first xs =
       | inl k ↦ (_, _, tabs_at xs k)
       | inr k ↦ (_, _, tabs_last xs k)
     ]
-
--- and a second behind a tab
-pub tabs_second : (xs : List ℕ) → place 9 xs < length xs → (f : List ℕ) × (g : List ℕ) × (gs : List (List ℕ)) × (at_tabs xs ≡ f ∷ g ∷ gs)
-tabs_second xs h =
-    let p = tabs_first (drop (suc (place 9 xs)) xs) in
-    (_, p.0, p.1, tabs_at xs h ∙ ap (λ fs. take (place 9 xs) xs ∷ fs) p.2)
-
--- `&t[1..]` as the checker reads it
-abbrev pub rest1 : List ℕ → List ℕ
-rest1 t = take (length t - 1) (drop 1 t)
-
-fields_some : (tail : List ℕ) → 0 < length tail → fields tail ≡ at_tabs (drop 1 tail)
-fields_some [] h = absurd (omega arith)
-fields_some (x ∷ xs) h = refl
-
-pub fields_are : (tail : List ℕ) → 0 < length tail → fields tail ≡ at_tabs (rest1 tail)
-fields_are tail h = rw take_rest (fields_some tail h)
-
--- by what `is_empty` answers
-pub not_empty : (xs : List ℕ) (r : Bool) → r ≡ eqb (length xs) 0 → r ≡ false → 0 < length xs
-not_empty xs r e f = let ne = eqb-false (length xs) 0 (sym e ∙ f) in omega (arith, ne)
-
-pub nothing_follows : (xs : List ℕ) (r : Bool) → r ≡ eqb (length xs) 0 → r ≡ true → length xs ≡ 0
-nothing_follows xs r e f = eqb-true (length xs) 0 (sym e ∙ f)
 
 -- what a line is, by its first byte: a tab there is no letter
 long_letter : (line : List ℕ) (x y : ℕ) (fs : List (List ℕ)) → by_fields line (onto x (onto y fs)) ≡ Err BadLine

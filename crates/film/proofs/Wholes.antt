@@ -93,9 +93,13 @@ shorter S rest text e = omega (arith, ap length e)
 shorter (T tail) rest text e = omega (arith, ap length e, length-append tail (10 ∷ rest))
 shorter (R tail) rest text e = omega (arith, ap length e, length-append tail (10 ∷ rest))
 
-pub made_shorter : (o : Result (Line × Bor (List ℕ)) Fault) (text : List ℕ) → Joins (line_seen o) text → IfOk o (λ p. length p.1.now < length text)
-made_shorter (Err e) text w = tt
-made_shorter (Ok p) text w = shorter (parts_of p.0) p.1.now text w
+-- the same of a call that reads the first line
+pub read_joins : (r : Result (Line × Bor (List ℕ)) Fault) (text : List ℕ) → line_seen r ≡ cut_line (cut_at 10 text) → Joins (line_seen r) text
+read_joins r text e = subst (λ o. Joins o text) (sym e) (cut_joins text (cut_at 10 text) refl)
+
+pub read_shorter : (r : Result (Line × Bor (List ℕ)) Fault) (text : List ℕ) → line_seen r ≡ cut_line (cut_at 10 text) → IfOk r (λ p. length p.1.now < length text)
+read_shorter (Err x) text e = tt
+read_shorter (Ok p) text e = shorter (parts_of p.0) p.1.now text (read_joins (Ok p) text e)
 
 -- lines counted on from a number
 abbrev pub count_from : ℕ → Result ℕ Fault → Result ℕ Fault

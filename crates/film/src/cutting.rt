@@ -29,9 +29,9 @@ pub(crate) fn cut<'a>(text: &'a [u8], byte: u8) -> Option<(&'a [u8], &'a [u8])>
 #[derive(Clone, Copy)]
 pub(crate) struct Fields<'a> {
     // What is left: nothing, or a tab before each field.
-    tail: &'a [u8],
+    rest: &'a [u8],
     // So that a count of the fields fits.
-    ghost fits: { length (fields tail.now) < 2 ^ 64 },
+    ghost fits: { length (fields rest.now) < 2 ^ 64 },
 }
 
 impl<'a> Fields<'a> {
@@ -39,17 +39,17 @@ impl<'a> Fields<'a> {
     #[tactic(auto, using(crate::proofs::Splits::fields_no_longer))]
     pub(crate) fn new(tail: &'a [u8]) -> Result<Fields<'a>, Fault>
         ensures { MatchResult result
-            (λ fs. (begun tail.now ≡ true) × (fs.tail.now ≡ tail.now)) (λ e. (begun tail.now ≡ false) × (e ≡ Fault.BadLine)) }
+            (λ fs. (begun tail.now ≡ true) × (fs.rest.now ≡ tail.now)) (λ e. (begun tail.now ≡ false) × (e ≡ Fault.BadLine)) }
     {
         match tail {
-            [] | [TAB, ..] => Ok(Fields { tail }),
+            [] | [TAB, ..] => Ok(Fields { rest: tail }),
             _ => Err(Fault::BadLine),
         }
     }
 
     // How many are left.
     pub(crate) fn len(&self) -> usize
-        ensures { result ≡ length (fields self.now.tail.now) }
+        ensures { result ≡ length (fields self.now.rest.now) }
     {
         (*self).count()
     }
@@ -61,15 +61,15 @@ impl<'a> Iterator for Fields<'a> {
 
     type Item = &'a [u8];
 
-    ghost next_gives = { YieldsFirstRef (λ s. fields s.tail.now) };
+    ghost next_gives = { YieldsFirstRef (λ s. fields s.rest.now) };
 
-    ghost remaining = { item_count (λ s. fields s.tail.now) };
+    ghost remaining = { item_count (λ s. fields s.rest.now) };
 
     #[tactic(auto, using(crate::proofs::Splits::next_fields))]
     fn next(&mut self) -> Option<&'a [u8]> {
-        let (_, rest) = self.tail.split_first()?;
-        let (field, more) = rest.split_at(find(rest, TAB).unwrap_or(rest.len()));
-        self.tail = more;
+        let (_, text) = self.rest.split_first()?;
+        let (field, rest) = text.split_at(find(text, TAB).unwrap_or(text.len()));
+        self.rest = rest;
         Some(field)
     }
 }

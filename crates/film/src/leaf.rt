@@ -1,6 +1,6 @@
 // The blocks of leaves, from the fields that follow their letters.
 ghost use Rattle.std.specs.Prelude.{◌≡◌, ℕ, List, Result, Err, pos, length, replicate, IfOk, MatchResult};
-ghost use Rattle.std.specs.List.{AllByRecursion as All};
+ghost use Rattle.std.specs.List.{AllByRecursion};
 ghost use Rattle.std.specs.Result.{result_unwrap_or};
 ghost use Rattle.film.specs.declared.fault.Fault.{Fault as Refusal};
 ghost use Rattle.film.specs.Fields.{fields};
@@ -11,7 +11,8 @@ use crate::cutting::Fields;
 use crate::fault::Fault;
 use crate::number::{read_level, read_position, read_sample};
 
-// What the block of a leaf holds, a value in each place: levels, or samples.
+// What the block of a leaf holds, a value in each place: levels, or samples. No other crate adds a third, so the trait
+// is not exported.
 pub trait Value: Copy {
     // The block of so many places that is written behind a leaf's letter.
     ghost block_after: { ℕ → List ℕ → Result (List Self) Refusal };
@@ -90,7 +91,7 @@ impl Value for u8 {
 #[tactic(auto, using(crate::proofs::Samples::many_after, crate::proofs::Samples::all_after))]
 fn sample_fields<'a>(samples: &'a [u8], count: usize) -> Result<Fields<'a>, Fault>
     ensures { MatchResult result
-        (λ fs. (samples_after count samples.now ≡ or_bad_field (samples_of (fields fs.tail.now))) × (length (fields fs.tail.now) ≡ count))
+        (λ fs. (samples_after count samples.now ≡ or_bad_field (samples_of (fields fs.rest.now))) × (length (fields fs.rest.now) ≡ count))
         (λ e. samples_after count samples.now ≡ Err e) }
 {
     let fields = Fields::new(samples)?;
@@ -114,9 +115,9 @@ impl<'a> Pairs<'a> {
     #[tactic(auto, using(crate::proofs::Pairs::odd_after, crate::proofs::Pairs::even_after, crate::proofs::Pairs::reads_within))]
     fn new(pairs: &'a [u8], count: usize) -> Result<Pairs<'a>, Fault>
         ensures reads { MatchResult result
-            (λ s. levels_after count pairs.now ≡ spread_all (replicate count (pos 0)) (gathered (pair_reads s.from s.count (fields s.fields.tail.now))))
+            (λ s. levels_after count pairs.now ≡ spread_all (replicate count (pos 0)) (gathered (pair_reads s.from s.count (fields s.fields.rest.now))))
             (λ e. levels_after count pairs.now ≡ Err e) }
-        ensures within { IfOk result (λ s. All (IsWithin count) (pair_reads s.from s.count (fields s.fields.tail.now))) }
+        ensures within { IfOk result (λ s. AllByRecursion (IsWithin count) (pair_reads s.from s.count (fields s.fields.rest.now))) }
     {
         let fields = Fields::new(pairs)?;
         if fields.len() % 2 != 0 {
@@ -148,9 +149,9 @@ impl<'a> Iterator for Pairs<'a> {
 
     type Item = Result<(usize, i32), Fault>;
 
-    ghost next_gives = { YieldsFirst (λ s. pair_reads s.from s.count (fields s.fields.tail.now)) };
+    ghost next_gives = { YieldsFirst (λ s. pair_reads s.from s.count (fields s.fields.rest.now)) };
 
-    ghost remaining = { item_count (λ s. pair_reads s.from s.count (fields s.fields.tail.now)) };
+    ghost remaining = { item_count (λ s. pair_reads s.from s.count (fields s.fields.rest.now)) };
 
     #[tactic(auto, using(crate::proofs::Pairs::reads_step))]
     fn next(&mut self) -> Option<Result<(usize, i32), Fault>> {

@@ -1,4 +1,4 @@
-// Numbers in fields.
+// Numbers in fields. A cast here loses nothing, which is proved; `try_from` would add an answer that no field gets.
 ghost use Rattle.std.specs.Prelude.{◌≡◌, ◌≢◌, ◌<◌, ◌≤◌, pos, IfOk, IfSome, MatchOption};
 ghost use Rattle.film.specs.Faults.{or_bad_field};
 ghost use Rattle.film.specs.Numbers.{number_below, number_in, level_in, position_in, OneForm, OneSignedForm};
@@ -42,6 +42,7 @@ fn level_in(field: &[u8]) -> Option<i32>
     }
 }
 
+// A level is not 0.
 fn unless_zero(level: i32) -> Option<i32>
     ensures { MatchOption result (level ≡ pos 0) (λ z. (z ≡ level) × (level ≢ pos 0)) }
 {

@@ -7,5 +7,5 @@ use Rattle.film.proofs.leaf.I32Value.place.Given as goal
 abbrev pub invariant-loop-pair : goal.invariant-loop-pair
 invariant-loop-pair l =
     let s = l.pair-iterator in
-    let reads = pair_reads s.from s.count (fields s.fields.tail.now) in
+    let reads = pair_reads s.from s.count (fields s.fields.rest.now) in
     (spread_all l.levels (gathered reads) ≡ levels_after (length l.levels) l.fn.pairs) × All (IsWithin (length l.levels)) reads

@@ -8,5 +8,5 @@ use Rattle.film.proofs.leaf.U8Value.place.Given as goal
 abbrev pub invariant-loop-i : goal.invariant-loop-i
 invariant-loop-i l =
     (goal.iterator-loop-i).can_next l.i-iterator × (goal.iterator-loop-i).is_finite l.i-iterator
-    × (or_bad_field (behind (take l.i-iterator.count l.block) (samples_of (fields l.i-iterator.iter.tail.now))) ≡ samples_after (length l.block) l.samples)
-    × (length (fields l.i-iterator.iter.tail.now) + l.i-iterator.count ≡ length l.block)
+    × (or_bad_field (behind (take l.i-iterator.count l.block) (samples_of (fields l.i-iterator.iter.rest.now))) ≡ samples_after (length l.block) l.samples)
+    × (length (fields l.i-iterator.iter.rest.now) + l.i-iterator.count ≡ length l.block)
