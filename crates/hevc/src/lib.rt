@@ -10,15 +10,21 @@ ghost use Rattle.transform.specs.Serving.{only_sound};
 ghost use Rattle.hevc.specs.Laws.{rules_sound};
 
 mod cosine;
+mod factor;
 mod kernel;
 mod passes;
 mod rounding;
 mod scaling;
+mod side;
 
 pub use cosine::MatrixSums;
 use exact::nearest;
+use factor::{KernelAt, Transposed};
 pub use kernel::Kernel;
-use passes::{choose_block, rebuild_block};
+use passes::pass;
+use rounding::{AfterColumns, AfterRows, Unrounded};
+use scaling::Scaling;
+pub use side::Side;
 use transform::{Fault, Mode, Transform};
 
 // The number of HEVC among the standards.
@@ -48,21 +54,35 @@ impl<K: Kernel> Transform for Hevc<K> {
     }
 
     fn choose_legal(&self, mode: Mode, residual: &[i32], levels: &mut [i32]) {
-        match mode.side {
-            4 => choose_block::<K, 16>(&self.kernel, mode.side, mode.step, residual, levels),
-            8 => choose_block::<K, 64>(&self.kernel, mode.side, mode.step, residual, levels),
-            16 => choose_block::<K, 256>(&self.kernel, mode.side, mode.step, residual, levels),
-            _ => choose_block::<K, 1024>(&self.kernel, mode.side, mode.step, residual, levels),
+        let side = Side { len: mode.side };
+        let matrix = KernelAt {
+            kernel: &self.kernel,
+            side,
+        };
+        let rounding = Scaling {
+            side,
+            step: mode.step,
         }
+        .to_levels();
+        levels.copy_from_slice(residual);
+        pass(&matrix, &Unrounded, levels);
+        pass(&matrix, &rounding, levels);
     }
 
     fn rebuild_legal(&self, mode: Mode, levels: &[i32], residual: &mut [i32]) -> Option<()> {
-        match mode.side {
-            4 => rebuild_block::<K, 16>(&self.kernel, mode.side, mode.step, levels, residual),
-            8 => rebuild_block::<K, 64>(&self.kernel, mode.side, mode.step, levels, residual),
-            16 => rebuild_block::<K, 256>(&self.kernel, mode.side, mode.step, levels, residual),
-            _ => rebuild_block::<K, 1024>(&self.kernel, mode.side, mode.step, levels, residual),
+        let side = Side { len: mode.side };
+        let matrix = Transposed(KernelAt {
+            kernel: &self.kernel,
+            side,
+        });
+        residual.copy_from_slice(levels);
+        Scaling {
+            side,
+            step: mode.step,
         }
+        .scale_all(residual);
+        pass(&matrix, &AfterColumns, residual);
+        pass(&matrix, &AfterRows, residual);
         Some(())
     }
 }
