@@ -1,5 +1,5 @@
 -- The logarithm of a side. Assumes nothing.
-use Rattle.std.proofs.Common.{◌≡◌, ℕ, suc, ◌*◌, ◌^◌, ◌<◌, ◌≤◌, true, inl, inr, arith}
+use Rattle.std.proofs.Common.{◌≡◌, ℕ, suc, ◌*◌, ◌^◌, ◌<◌, ◌≤◌, true, inl, inr, refl, arith}
 use Rattle.std.proofs.lemmas.Bool.{cases_lt}
 use Rattle.std.proofs.Math.Nat.{pow-suc}
 use Rattle.std.proofs.Math.Pow.{pow_mono, pow-lt}
@@ -22,11 +22,11 @@ log_is n r s le lt = elim (side_cases n s) [
   | inr (inr (inr e)) ↦ rw e (only_power 5 r (rw e at le) (rw e at lt))
 ]
 
-pub log_range : (n r : ℕ) → sided n ≡ true → r ≡ log2 n → (2 ≤ r) × (r ≤ 5)
+pub log_power : (n r : ℕ) → sided n ≡ true → r ≡ log2 n → (2 ^ r ≡ n) × (2 ≤ r) × (r ≤ 5)
 unfolding log2
-log_range n r s q = elim (side_cases n s) [
-  | inl e ↦ (let k = rw e at q in omega arith)
-  | inr (inl e) ↦ (let k = rw e at q in omega arith)
-  | inr (inr (inl e)) ↦ (let k = rw e at q in omega arith)
-  | inr (inr (inr e)) ↦ (let k = rw e at q in omega arith)
+log_power n r s q = elim (side_cases n s) [
+  | inl e ↦ rw (rw e at q, e) (refl, omega arith, omega arith)
+  | inr (inl e) ↦ rw (rw e at q, e) (refl, omega arith, omega arith)
+  | inr (inr (inl e)) ↦ rw (rw e at q, e) (refl, omega arith, omega arith)
+  | inr (inr (inr e)) ↦ rw (rw e at q, e) (refl, omega arith, omega arith)
 ]

@@ -8,8 +8,13 @@ use Rattle.exact.proofs.Sums.{product_abs, product_ext, product_transposed}
 use Rattle.exact.proofs.Blocks.{at_block, block_at, block_ext, block_bounded}
 use Rattle.exact.proofs.Rounding.{clip_abs}
 use Rattle.hevc.specs.Scaling.{scale, log2, coefficient}
+use Rattle.hevc.specs.Turning.{turned_by}
 use Rattle.hevc.specs.Passes.{passed, coefficients, columns, rebuilt_by, spectrum, chosen_by}
 use Rattle.hevc.proofs.Places.{map_block}
+
+-- the two steps of a pass
+pub passed_is : (N : ℕ) (f : ℤ → ℤ) (P : Matrix) (xs sums ys : List ℤ) → sums ≡ block N (product N P (at N xs)) → ys ≡ block N (turned_by f N sums) → ys ≡ passed f P N xs
+passed_is N f P xs sums ys a b = b ∙ ap (λ zs. block N (turned_by f N zs)) a
 
 -- a pass over the block of Q
 passed_block : (N : ℕ) (f : ℤ → ℤ) (P Q : Matrix) → passed f P N (block N Q) ≡ block N (λ i j. f (product N P Q j i))
@@ -45,23 +50,26 @@ module _ (A : Matrix) (N q : ℕ) (xs : List ℤ) (many : length xs ≡ N * N) w
       ∙ passed_block N (λ z. nearest z divisor) A (transposed (product N A X))
       ∙ block_ext N _ _ (λ i j h l. ap (λ z. nearest z divisor) (sym (product_transposed N (product N A X) (transposed A) i j)) ∙ ap (nearest (spectrum N A X i j)) e)
 
--- ---- bounds
+-- ---- bounds, each of the list that an equation names
 pub bounded_along : (m n : ℕ) (xs ys : List ℤ) → m ≤ n → ys ≡ xs → Bounded m xs → Bounded n ys
 bounded_along m n xs ys le e b = rw e (λ k. omega (arith, b k))
 
 -- the sums of a product, where the entries are at most 90 and the numbers at most m
-pub sums_bounded : (N m n : ℕ) (P : Matrix) (xs : List ℤ) → N ≤ 32 → 32 * (90 * m) ≤ n → ((i j : ℕ) → nat_abs (P i j) ≤ 90) → Bounded m xs → Bounded n (block N (product N P (at N xs)))
-sums_bounded N m n P xs le lt h b = block_bounded N n (product N P (at N xs))
-    (λ i j _ _. omega (arith, product_abs N P (at N xs) i j 90 m (λ k _. h i k) (λ k _. b (k * N + j)), mul-le N (90 * m) 32 (90 * m) le (omega arith)))
+pub sums_bounded : (N m n : ℕ) (P : Matrix) (xs ys : List ℤ) → N ≤ 32 → 32 * (90 * m) ≤ n → ((i j : ℕ) → nat_abs (P i j) ≤ 90) → Bounded m xs → ys ≡ block N (product N P (at N xs)) → Bounded n ys
+sums_bounded N m n P xs ys le lt h b e = bounded_along n n _ ys (omega arith) e (block_bounded N n (product N P (at N xs))
+    (λ i j _ _. omega (arith, product_abs N P (at N xs) i j 90 m (λ k _. h i k) (λ k _. b (k * N + j)), mul-le N (90 * m) 32 (90 * m) le (omega arith))))
 
--- sums that are turned as they are
-pub unrounded_bounded : (N m n : ℕ) (P : Matrix) (xs : List ℤ) → N ≤ 32 → 32 * (90 * m) ≤ n → ((i j : ℕ) → nat_abs (P i j) ≤ 90) → Bounded m xs → Bounded n (passed (λ z. z) P N xs)
-unrounded_bounded N m n P xs le lt h b = block_bounded N n _ (λ i j _ _. sums_bounded N m n P xs le lt h b (j * N + i))
+-- the same after a pass that rounds nothing
+pub unrounded_bounded : (N m n : ℕ) (P : Matrix) (xs ys : List ℤ) → N ≤ 32 → 32 * (90 * m) ≤ n → ((i j : ℕ) → nat_abs (P i j) ≤ 90) → Bounded m xs → ys ≡ passed (λ z. z) P N xs → Bounded n ys
+unrounded_bounded N m n P xs ys le lt h b e =
+    bounded_along n n _ ys (omega arith) e (block_bounded N n _ (λ i j _ _. sums_bounded N m n P xs _ le lt h b refl (j * N + i)))
 
--- what is clipped fits 16 bits
-pub clipped_bounded : (N : ℕ) (P : Matrix) (xs : List ℤ) → Bounded 32768 (passed after_columns P N xs)
-clipped_bounded N P xs = block_bounded N 32768 _ (λ i j _ _. clip_abs (floor_shift (at N (block N (product N P (at N xs))) j i +ℤ pos 64) 7))
+-- after a pass that clips, and where levels are scaled, all fits 16 bits
+pub clipped_bounded : (N : ℕ) (P : Matrix) (xs ys : List ℤ) → ys ≡ passed after_columns P N xs → Bounded 32768 ys
+clipped_bounded N P xs ys e =
+    bounded_along 32768 32768 _ ys (omega arith) e (block_bounded N 32768 _ (λ i j _ _. clip_abs (floor_shift (at N (block N (product N P (at N xs))) j i +ℤ pos 64) 7)))
 
-pub coefficients_bounded : (N q : ℕ) (xs : List ℤ) → length xs ≡ N * N → Bounded 32768 (map (coefficient (log2 N) (scale q)) xs)
+pub coefficients_bounded : (N q : ℕ) (xs ys : List ℤ) → length xs ≡ N * N → ys ≡ map (coefficient (log2 N) (scale q)) xs → Bounded 32768 ys
 unfolding coefficient
-coefficients_bounded N q xs many = bounded_along 32768 32768 _ _ (omega arith) (map_block N _ xs many) (block_bounded N 32768 (coefficients N q (at N xs)) (λ i j _ _. clip_abs (floor_shift (at N xs i j *ℤ pos (16 * scale q) +ℤ pos (2 ^ (log2 N + 2))) (log2 N + 3))))
+coefficients_bounded N q xs ys many e =
+    bounded_along 32768 32768 _ ys (omega arith) (e ∙ map_block N _ xs many) (block_bounded N 32768 (coefficients N q (at N xs)) (λ i j _ _. clip_abs (floor_shift (at N xs i j *ℤ pos (16 * scale q) +ℤ pos (2 ^ (log2 N + 2))) (log2 N + 3))))

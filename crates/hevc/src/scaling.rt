@@ -28,20 +28,12 @@ impl Scaling {
         SCALES[(self.step % 6) as usize] * (1 << (self.step / 6))
     }
 
-    // The base-2 logarithm of the side.
-    fn log(self) -> u32
-        ensures value { result ≡ log2 self.side.len }
-        ensures range { (2 ≤ result) × (result ≤ 5) }
-    {
-        self.side.len.ilog2()
-    }
-
     // A level scaled. The factor 16 of the standard's product and of its shift cancel, so that the product fits 32 bits.
     fn coefficient(self, level: i32) -> i32
         requires { unsigned_abs level ≤ 32768 }
         ensures { result ≡ coefficient (log2 self.side.len) (scale self.step) level }
     {
-        clip16(round_shift(level * self.scale() as i32, self.log() - 1))
+        clip16(round_shift(level * self.scale() as i32, self.side.log() - 1))
     }
 
     // Levels, each scaled in its place.

@@ -18,7 +18,7 @@ pass-requires-2-clause-small g c =
     let p = shape_parts n _ _ c.requires.shape in
     let s = side_range n p.0 in
     let b = bounded_along 255 255 _ _ (omega arith) c.copy_from_slice.ensures.after (residuals_bounded _ c.requires.range) in
-    bounded_along input_limit input_limit _ _ (omega arith) c.pass.ensures (unrounded_bounded n 255 input_limit (g.K.Kernel.matrix k n) c.copy_from_slice.new.self s.1 (omega arith) (g.met.K.Kernel.entries k n) b)
+    unrounded_bounded n 255 input_limit (g.K.Kernel.matrix k n) c.copy_from_slice.new.self _ s.1 (omega arith) (g.met.K.Kernel.entries k n) b c.pass.ensures
 
 pub returns : goal.returns
 returns g c =

@@ -1,4 +1,4 @@
-use Rattle.std.proofs.Common.{sym, ap, ◌∙◌, map, arith}
+use Rattle.std.proofs.Common.{sym, ap, ◌∙◌, length, map, arith}
 use Rattle.std.specs.Option.{unwrap_or}
 use Rattle.transform.proofs.Sides.{shape_parts}
 use Rattle.transform.specs.Ranges.{shorts_bounded}
@@ -14,15 +14,11 @@ scale_all-requires g c = bounded_along 32768 32768 _ _ (omega arith) c.copy_from
 
 pub pass-requires-clause-small : goal.pass-requires-clause-small
 pass-requires-clause-small g c =
-    let n = c.args.mode.side in
-    let q = c.args.mode.step in
-    let p = shape_parts n _ _ c.requires.shape in
-    bounded_along 32768 32768 _ _ (omega arith) (c.scale_all.ensures ∙ ap (map (coefficient (log2 n) (scale q))) c.copy_from_slice.ensures.after) (coefficients_bounded n q c.args.levels.now p.1)
+    let p = shape_parts c.args.mode.side _ _ c.requires.shape in
+    coefficients_bounded c.args.mode.side c.args.mode.step _ _ (ap length c.copy_from_slice.ensures.after ∙ p.1) c.scale_all.ensures
 
 pub pass-requires-2-clause-small : goal.pass-requires-2-clause-small
-pass-requires-2-clause-small g c =
-    let n = c.args.mode.side in
-    bounded_along 32768 32768 _ _ (omega arith) c.pass.ensures (clipped_bounded n (transposed (g.K.Kernel.matrix c.args.self.now.kernel n)) c.scale_all.new.cells)
+pass-requires-2-clause-small g c = clipped_bounded c.args.mode.side (transposed (g.K.Kernel.matrix c.args.self.now.kernel c.args.mode.side)) c.scale_all.new.cells _ c.pass.ensures
 
 pub returns-clause-block : goal.returns-clause-block
 returns-clause-block g c =
