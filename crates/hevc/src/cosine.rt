@@ -76,7 +76,8 @@ impl Product<'_> {
         self.entry(i, k) * self.given[k * self.side.len + j]
     }
 
-    // Row i of the matrix times column j of the block. A place of the row is a row of the block, so it is counted.
+    // Row i of the matrix times column j of the block. The index k is a column of the one and a row of the other, so it is
+    // counted.
     fn sum(&self, i: usize, j: usize) -> i32
         requires { (i < self.now.side.len) × (j < self.now.side.len) }
         ensures { result ≡ product self.now.side.len (turned_if self.now.turned (cosine self.now.side.len)) (at self.now.side.len self.now.given.now) i j }
@@ -88,7 +89,8 @@ impl Product<'_> {
         sum
     }
 
-    // The whole product.
+    // The whole product. Its two callers say which matrix, and inlined it need not ask again for each entry.
+    #[inline(always)]
     fn write(&self, out: &mut [i32])
         requires { length out.old ≡ self.now.side.len * self.now.side.len }
         ensures { out.new ≡ block self.now.side.len (product self.now.side.len (turned_if self.now.turned (cosine self.now.side.len)) (at self.now.side.len self.now.given.now)) }

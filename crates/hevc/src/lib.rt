@@ -118,7 +118,8 @@ pub fn rebuild(side: usize, step: u32, levels: &[i32], residual: &mut [i32]) -> 
 fn rebuilt_first(level: i32) -> i32
     ensures { result ≡ slice_index_or (result_unwrap_or (rebuilding hevc 0 4 4 (level ∷ replicate 15 (pos 0)) 16) (replicate 16 (pos 0))) 0 (pos 0) }
 {
-    let levels = [level, 0, 0, 0, 0, 0, 0, 0, 0, 0, 0, 0, 0, 0, 0, 0];
+    let mut levels = [0; 16];
+    levels[0] = level;
     let mut residual = [0; 16];
     let _ = rebuild(4, 4, &levels, &mut residual);
     residual[0]
