@@ -17,15 +17,16 @@ const FIRST_COLUMN: [i32; 32] = [
     36, 31, 25, 22, 18, 13, 9, 4,
 ];
 
+#[tactic(auto, using(crate::specs::Entries::first_small), unfolding(crate::specs::Cosine::first))]
 fn first_of(t: usize) -> i32
     requires { t < 32 }
-    ensures value { result ≡ first t }
-    ensures small { (pos 0 ≤ℤ result) × (result ≤ℤ pos 90) }
+    ensures { result ≡ first t }
 {
     FIRST_COLUMN[t]
 }
 
 // Row k, column n of the 32-point matrix.
+#[tactic(auto, using(crate::proofs::Terms::entries), unfolding(crate::specs::Cosine::cosine32))]
 fn entry32(k: usize, n: usize) -> i32
     requires { (k < 32) × (n < 32) }
     ensures { result ≡ cosine32 k n }
@@ -68,6 +69,7 @@ impl Product<'_> {
     }
 
     // Row i, column k of the matrix times row k, column j of the block.
+    #[tactic(auto, using(crate::proofs::Terms::terms))]
     fn term(&self, i: usize, j: usize, k: usize) -> i32
         requires { (i < self.now.side.len) × (j < self.now.side.len) × (k < self.now.side.len) }
         ensures value { result ≡ turned_if self.now.turned (cosine self.now.side.len) i k *ℤ at self.now.side.len self.now.given.now k j }
@@ -91,6 +93,7 @@ impl Product<'_> {
 
     // The whole product. Its two callers say which matrix, and inlined it need not ask again for each entry.
     #[inline(always)]
+    #[tactic(auto, using(crate::proofs::Places::place_more, crate::proofs::Places::places_all))]
     fn write(&self, out: &mut [i32])
         requires { length out.old ≡ self.now.side.len * self.now.side.len }
         ensures { out.new ≡ block self.now.side.len (product self.now.side.len (turned_if self.now.turned (cosine self.now.side.len)) (at self.now.side.len self.now.given.now)) }

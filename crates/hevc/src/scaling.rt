@@ -20,7 +20,7 @@ pub(crate) struct Scaling {
 
 impl Scaling {
     // The scaling number of the step.
-    #[tactic(auto, using(crate::specs::Scales::scale_coded, crate::specs::Scales::scale_least, crate::specs::Scales::scale_most))]
+    #[tactic(auto, using(crate::specs::Scales::scale_coded))]
     fn scale(self) -> u32
         ensures value { result ≡ scale self.step }
         ensures range { (40 ≤ result) × (result ≤ 14592) }

@@ -4,8 +4,9 @@ use Rattle.transform.specs.Ranges.{residuals_bounded}
 use Rattle.exact.specs.Rounding.{nearest}
 use Rattle.hevc.specs.Limits.{input_limit}
 use Rattle.hevc.specs.Passes.{passed}
+use Rattle.hevc.specs.Hevc.{rules_of}
 use Rattle.hevc.proofs.TwoPasses.{chosen_is, bounded_along, unrounded_bounded}
-use Rattle.hevc.proofs.Usable.{usable_parts}
+use Rattle.hevc.proofs.Usable.{rules_here}
 use Rattle.hevc.proofs.HevcTransform.choose_legal.Goals as goal
 
 pub pass-requires-clause-small : goal.pass-requires-clause-small
@@ -29,7 +30,6 @@ returns g c =
     let d = c.to_levels-rounding.result.divisor in
     let A = g.K.Kernel.matrix k n in
     let p = shape_parts n _ _ c.requires.shape in
-    let u = usable_parts (g.K.Kernel.served k) (g.K.Kernel.matrix k) c.args.mode.standard n q c.requires.usable in
     c.pass-2.ensures ∙ ap (passed (λ z. nearest z d) A n) (c.pass.ensures ∙ ap (passed (λ z. z) A n) c.copy_from_slice.ensures.after)
     ∙ chosen_is A n q xs p.1 d c.to_levels-rounding.ensures
-    ∙ ap (λ r. r.chosen n q xs) (sym u.here)
+    ∙ ap (λ r. r.chosen n q xs) (sym (rules_here 0 (rules_of (g.K.Kernel.served k) (g.K.Kernel.matrix k)) c.args.mode.standard n q c.requires.usable))
