@@ -80,6 +80,7 @@ impl Product<'_> {
 
     // Row i of the matrix times column j of the block. The index k is a column of the one and a row of the other, so it is
     // counted.
+    #[tactic(auto, using(crate::proofs::Terms::sums))]
     fn sum(&self, i: usize, j: usize) -> i32
         requires { (i < self.now.side.len) × (j < self.now.side.len) }
         ensures { result ≡ product self.now.side.len (turned_if self.now.turned (cosine self.now.side.len)) (at self.now.side.len self.now.given.now) i j }

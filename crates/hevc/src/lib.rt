@@ -53,6 +53,7 @@ impl<K: Kernel> Transform for Hevc<K> {
         mode.standard == STANDARD && self.kernel.serves(mode.side) && mode.step <= 51
     }
 
+    #[tactic(auto, using(crate::proofs::TwoPasses::ways))]
     fn choose_legal(&self, mode: Mode, residual: &[i32], levels: &mut [i32]) {
         let side = Side { len: mode.side };
         let matrix = KernelAt {
@@ -69,6 +70,7 @@ impl<K: Kernel> Transform for Hevc<K> {
         pass(&matrix, &rounding, levels);
     }
 
+    #[tactic(auto, using(crate::proofs::TwoPasses::ways))]
     fn rebuild_legal(&self, mode: Mode, levels: &[i32], residual: &mut [i32]) -> Option<()> {
         let side = Side { len: mode.side };
         let matrix = Transposed(KernelAt {

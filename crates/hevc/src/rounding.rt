@@ -60,6 +60,7 @@ pub(crate) struct ToLevels {
 impl Rounding for ToLevels {
     ghost rounded = { λ t z. nearest_to z t.divisor };
 
+    #[tactic(auto, using(crate::proofs::Terms::level_fits, crate::proofs::Terms::level_back))]
     fn round(&self, sum: i32) -> i32 {
         nearest(sum as i64, self.divisor as u64) as i32
     }

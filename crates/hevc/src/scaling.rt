@@ -29,6 +29,7 @@ impl Scaling {
     }
 
     // A level scaled. The factor 16 of the standard's product and of its shift cancel, so that the product fits 32 bits.
+    #[tactic(auto, using(crate::proofs::Terms::scaled))]
     fn coefficient(self, level: i32) -> i32
         requires { unsigned_abs level ≤ 32768 }
         ensures { result ≡ coefficient (log2 self.side.len) (scale self.step) level }
@@ -37,6 +38,7 @@ impl Scaling {
     }
 
     // Levels, each scaled in its place.
+    #[tactic(auto, using(crate::proofs::Terms::mapped))]
     pub(crate) fn scale_all(self, cells: &mut [i32])
         requires { Bounded 32768 cells.old }
         ensures { cells.new ≡ map (coefficient (log2 self.side.len) (scale self.step)) cells.old }

@@ -12,6 +12,7 @@ pub struct Side {
 
 impl Side {
     // The base-2 logarithm.
+    #[tactic(auto, using(crate::proofs::Logs::log_is, crate::proofs::Logs::log_power))]
     pub(crate) fn log(self) -> u32
         ensures value { result ≡ log2 self.len }
         ensures power { 2 ^ result ≡ self.len }

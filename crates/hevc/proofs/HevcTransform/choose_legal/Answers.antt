@@ -9,15 +9,11 @@ use Rattle.hevc.proofs.TwoPasses.{chosen_is, bounded_along, unrounded_bounded}
 use Rattle.hevc.proofs.Usable.{rules_here}
 use Rattle.hevc.proofs.HevcTransform.choose_legal.Goals as goal
 
-pub pass-requires-clause-small : goal.pass-requires-clause-small
-pass-requires-clause-small g c = bounded_along 255 input_limit _ _ (omega arith) c.copy_from_slice.ensures.after (residuals_bounded _ c.requires.range)
-
 pub pass-requires-2-clause-small : goal.pass-requires-2-clause-small
 pass-requires-2-clause-small g c =
     let n = c.args.mode.side in
     let k = c.args.self.now.kernel in
-    let p = shape_parts n _ _ c.requires.shape in
-    let s = side_range n p.0 in
+    let s = side_range n (shape_parts n _ _ c.requires.shape).0 in
     let b = bounded_along 255 255 _ _ (omega arith) c.copy_from_slice.ensures.after (residuals_bounded _ c.requires.range) in
     unrounded_bounded n 255 input_limit (g.K.Kernel.matrix k n) c.copy_from_slice.new.self _ s.1 (omega arith) (g.met.K.Kernel.entries k n) b c.pass.ensures
 

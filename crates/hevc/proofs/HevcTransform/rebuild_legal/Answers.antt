@@ -1,25 +1,13 @@
-use Rattle.std.proofs.Common.{sym, ap, ◌∙◌, length, map, arith}
+use Rattle.std.proofs.Common.{sym, ap, ◌∙◌, map}
 use Rattle.std.specs.Option.{unwrap_or}
 use Rattle.transform.proofs.Sides.{shape_parts}
-use Rattle.transform.specs.Ranges.{shorts_bounded}
 use Rattle.exact.specs.Sums.{transposed}
 use Rattle.hevc.specs.Scaling.{scale, log2, coefficient}
 use Rattle.hevc.specs.Passes.{passed}
 use Rattle.hevc.specs.Hevc.{rules_of}
-use Rattle.hevc.proofs.TwoPasses.{rebuilt_is, bounded_along, clipped_bounded, coefficients_bounded, after_columns, after_rows}
+use Rattle.hevc.proofs.TwoPasses.{rebuilt_is, after_columns, after_rows}
 use Rattle.hevc.proofs.Usable.{rules_here}
 use Rattle.hevc.proofs.HevcTransform.rebuild_legal.Goals as goal
-
-pub scale_all-requires : goal.scale_all-requires
-scale_all-requires g c = bounded_along 32768 32768 _ _ (omega arith) c.copy_from_slice.ensures.after (shorts_bounded _ c.requires.range)
-
-pub pass-requires-clause-small : goal.pass-requires-clause-small
-pass-requires-clause-small g c =
-    let p = shape_parts c.args.mode.side _ _ c.requires.shape in
-    coefficients_bounded c.args.mode.side c.args.mode.step _ _ (ap length c.copy_from_slice.ensures.after ∙ p.1) c.scale_all.ensures
-
-pub pass-requires-2-clause-small : goal.pass-requires-2-clause-small
-pass-requires-2-clause-small g c = clipped_bounded c.args.mode.side (transposed (g.K.Kernel.matrix c.args.self.now.kernel c.args.mode.side)) c.scale_all.new.cells _ c.pass.ensures
 
 pub returns-clause-block : goal.returns-clause-block
 returns-clause-block g c =
