@@ -1,5 +1,6 @@
 -- Writing a block place after place. Assumes nothing.
 use Rattle.std.proofs.Common.{◌≡◌, ℕ, ◌+◌, ◌*◌, ◌/◌, ◌%◌, ◌<◌, ◌≤◌, List, length, set, ℤ, pos, map, get_or, ◌∙◌, ap₂, arith}
+use Rattle.std.proofs.lemmas.Int.{to_z-of_z}
 use Rattle.std.proofs.lemmas.List.{length-map, get_or-map}
 use Rattle.std.proofs.lemmas.List.FromFn.{fill_by_all}
 use Rattle.exact.specs.Sums.{Matrix}
@@ -27,3 +28,6 @@ pub map_block : (n : ℕ) (f : ℤ → ℤ) (xs : List ℤ) → length xs ≡ n 
 map_block n f xs e =
     let l : length (map f xs) ≡ n * n = length-map xs f ∙ e in
     mapped_all n f xs (map f xs) (n * n) l (omega arith) (λ k lt. get_or-map f xs k (pos 0) (pos 0) (omega arith))
+
+-- what a loop over the places needs
+pub ruleset places = (to_z-of_z, place_more, turned_more, places_all)

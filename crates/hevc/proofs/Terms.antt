@@ -10,7 +10,7 @@ use Rattle.exact.proofs.Sums.{abs_product, sum_none, sum_more}
 use Rattle.transform.proofs.Sides.{side_range}
 use Rattle.hevc.specs.Cosine.{first}
 use Rattle.hevc.specs.Entries.{first_small, first_past, turned_abs}
-use Rattle.hevc.specs.Scales.{scaled_is, coefficient_is}
+use Rattle.hevc.specs.Scales.{scaled_is, scaled_small, coefficient_is}
 use Rattle.std.proofs.lemmas.List.{get_or_default}
 use Rattle.std.proofs.lemmas.List.Edits.{map_over_more}
 use Rattle.hevc.specs.Limits.{entry_limit, input_limit, term_limit, sum_limit}
@@ -57,7 +57,7 @@ pub ruleset terms = (term_fits, term_is, term_small, turned_abs)
 pub ruleset sums = (ints, sum_none, sum_step, side_range)
 
 -- what a coefficient needs
-pub ruleset scaled = (to_z-of_z, scaled_is, coefficient_is)
+pub ruleset scaled = (to_z-of_z, scaled_is, scaled_small, coefficient_is)
 
 -- what numbers changed in their places need
 pub ruleset mapped = (to_z-of_z, map_over_more, get_or_default)

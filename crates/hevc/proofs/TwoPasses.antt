@@ -10,7 +10,6 @@ use Rattle.exact.proofs.Rounding.{clip_abs}
 use Rattle.hevc.specs.Scaling.{scale, log2, coefficient}
 use Rattle.hevc.specs.Turning.{turned_by}
 use Rattle.hevc.specs.Passes.{passed, coefficients, columns, rebuilt_by, spectrum, chosen_by}
-use Rattle.std.proofs.lemmas.Int.{to_z-of_z}
 use Rattle.transform.proofs.Sides.{shape_parts, side_range}
 use Rattle.transform.specs.Ranges.{residuals_bounded, shorts_bounded}
 use Rattle.hevc.proofs.Places.{places_all, turned_more, map_block}
@@ -76,9 +75,6 @@ pub coefficients_bounded : (N q : ℕ) (xs ys : List ℤ) → length xs ≡ N * 
 unfolding coefficient
 coefficients_bounded N q xs ys many e =
     bounded_along 32768 32768 _ ys (omega arith) (e ∙ map_block N _ xs many) (block_bounded N 32768 (coefficients N q (at N xs)) (λ i j _ _. clip_abs (floor_shift (at N xs i j *ℤ pos (16 * scale q) +ℤ pos (2 ^ (log2 N + 2))) (log2 N + 3))))
-
--- what a pass needs
-pub ruleset passes = (to_z-of_z, turned_more, places_all, passed_is)
 
 -- what a way through a block, in two passes, needs
 pub ruleset ways = (shape_parts, residuals_bounded, shorts_bounded, bounded_along, clipped_bounded, coefficients_bounded)

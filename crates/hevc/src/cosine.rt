@@ -17,7 +17,7 @@ const FIRST_COLUMN: [i32; 32] = [
     36, 31, 25, 22, 18, 13, 9, 4,
 ];
 
-#[tactic(auto, using(crate::specs::Entries::first_small), unfolding(crate::specs::Cosine::first))]
+#[tactic(auto, unfolding(crate::specs::Cosine::first))]
 fn first_of(t: usize) -> i32
     requires { t < 32 }
     ensures { result ≡ first t }
@@ -72,7 +72,7 @@ impl Product<'_> {
     #[tactic(auto, using(crate::proofs::Terms::terms))]
     fn term(&self, i: usize, j: usize, k: usize) -> i32
         requires { (i < self.now.side.len) × (j < self.now.side.len) × (k < self.now.side.len) }
-        ensures value { result ≡ turned_if self.now.turned (cosine self.now.side.len) i k *ℤ at self.now.side.len self.now.given.now k j }
+        ensures value { let n = self.now.side.len in result ≡ turned_if self.now.turned (cosine n) i k *ℤ at n self.now.given.now k j }
         ensures small { unsigned_abs result ≤ term_limit }
     {
         self.entry(i, k) * self.given[k * self.side.len + j]
@@ -83,7 +83,7 @@ impl Product<'_> {
     #[tactic(auto, using(crate::proofs::Terms::sums))]
     fn sum(&self, i: usize, j: usize) -> i32
         requires { (i < self.now.side.len) × (j < self.now.side.len) }
-        ensures { result ≡ product self.now.side.len (turned_if self.now.turned (cosine self.now.side.len)) (at self.now.side.len self.now.given.now) i j }
+        ensures { let n = self.now.side.len in result ≡ product n (turned_if self.now.turned (cosine n)) (at n self.now.given.now) i j }
     {
         let mut sum = 0;
         for k in 0..self.side.len {
@@ -94,10 +94,10 @@ impl Product<'_> {
 
     // The whole product. Its two callers say which matrix, and inlined it need not ask again for each entry.
     #[inline(always)]
-    #[tactic(auto, using(crate::proofs::Places::place_more, crate::proofs::Places::places_all))]
+    #[tactic(auto, using(crate::proofs::Places::places))]
     fn write(&self, out: &mut [i32])
         requires { length out.old ≡ self.now.side.len * self.now.side.len }
-        ensures { out.new ≡ block self.now.side.len (product self.now.side.len (turned_if self.now.turned (cosine self.now.side.len)) (at self.now.side.len self.now.given.now)) }
+        ensures { let n = self.now.side.len in out.new ≡ block n (product n (turned_if self.now.turned (cosine n)) (at n self.now.given.now)) }
     {
         for (place, number) in out.iter_mut().enumerate() {
             let (i, j) = self.side.row_and_column(place);

@@ -21,7 +21,7 @@ pub(crate) fn pass<F: Factor, R: Rounding>(factor: &F, rounding: &R, cells: &mut
 }
 
 // The same with scratch for AREA sums.
-#[tactic(auto, using(crate::proofs::TwoPasses::passes))]
+#[tactic(auto, using(crate::proofs::Places::places, crate::proofs::TwoPasses::passed_is))]
 fn pass_by<F: Factor, R: Rounding, const AREA: usize>(factor: &F, rounding: &R, cells: &mut [i32])
     requires len { (length cells.old ≡ F.len factor.now * F.len factor.now) × (AREA ≡ F.len factor.now * F.len factor.now) }
     requires small { Bounded (F.limit factor.now) cells.old }
