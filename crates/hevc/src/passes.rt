@@ -6,7 +6,8 @@ ghost use Rattle.hevc.specs.Passes.{passed};
 use crate::factor::Factor;
 use crate::rounding::Rounding;
 
-// The block times a factor, each sum rounded, and rows turned into columns.
+// The block times a factor, each sum rounded, and rows turned into columns. The block is the caller's slice, so that its
+// length is asked for, as a kernel asks.
 pub(crate) fn pass<F: Factor, R: Rounding>(factor: &F, rounding: &R, cells: &mut [i32])
     requires len { length cells.old ≡ F.len factor.now * F.len factor.now }
     requires small { Bounded (F.limit factor.now) cells.old }
@@ -20,7 +21,7 @@ pub(crate) fn pass<F: Factor, R: Rounding>(factor: &F, rounding: &R, cells: &mut
     }
 }
 
-// The same with scratch for AREA sums.
+// The same with scratch for AREA sums, no larger than the block.
 #[tactic(auto, using(crate::proofs::Places::places, crate::proofs::TwoPasses::passed_is))]
 fn pass_by<F: Factor, R: Rounding, const AREA: usize>(factor: &F, rounding: &R, cells: &mut [i32])
     requires len { (length cells.old ≡ F.len factor.now * F.len factor.now) × (AREA ≡ F.len factor.now * F.len factor.now) }
