@@ -12,7 +12,7 @@ use Rattle.hevc.specs.Turning.{turned_by}
 use Rattle.hevc.specs.Passes.{passed, coefficients, columns, rebuilt_by, spectrum, chosen_by}
 use Rattle.transform.proofs.Sides.{shape_parts, side_range}
 use Rattle.transform.specs.Ranges.{residuals_bounded, shorts_bounded}
-use Rattle.hevc.proofs.Places.{places_all, turned_more, map_block}
+use Rattle.hevc.proofs.Places.{map_block}
 
 -- the two steps of a pass
 pub passed_is : (N : ℕ) (f : ℤ → ℤ) (P : Matrix) (xs sums ys : List ℤ) → sums ≡ block N (product N P (at N xs)) → ys ≡ block N (turned_by f N sums) → ys ≡ passed f P N xs

@@ -1,7 +1,7 @@
 // The cosine kernel of HEVC by plain matrix sums.
-ghost use Rattle.std.specs.Prelude.{◌≡◌, ℕ, ◌+◌, ◌*◌, ◌<◌, ◌≤◌, true, length, pos, ◌*ℤ◌, ◌≤ℤ◌, unsigned_abs};
+ghost use Rattle.std.specs.Prelude.{◌≡◌, ◌*◌, ◌<◌, ◌≤◌, length, ◌*ℤ◌, unsigned_abs};
 ghost use Rattle.exact.specs.Sums.{product, Bounded};
-ghost use Rattle.exact.specs.Blocks.{at, block, placed, Filled};
+ghost use Rattle.exact.specs.Blocks.{at, block};
 ghost use Rattle.transform.specs.Meaning.{sided};
 ghost use Rattle.hevc.specs.Cosine.{first, cosine32, cosine, turned_if};
 ghost use Rattle.hevc.specs.Limits.{input_limit, term_limit};

@@ -1,5 +1,5 @@
 // What is done to the sums of a pass.
-ghost use Rattle.std.specs.Prelude.{◌≡◌, ℕ, ◌<◌, ◌≤◌, ℤ, pos, ◌+ℤ◌, unsigned_abs};
+ghost use Rattle.std.specs.Prelude.{◌≡◌, ◌<◌, ◌≤◌, ℤ, pos, ◌+ℤ◌, unsigned_abs};
 ghost use Rattle.exact.specs.Rounding.{clip16 as clipped, floor_shift, nearest as nearest_to};
 ghost use Rattle.hevc.specs.Limits.{sum_limit};
 

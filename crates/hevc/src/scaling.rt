@@ -1,4 +1,4 @@
-// Levels scaled to coefficients.
+// Levels scaled to coefficients, and the rounding back to levels.
 ghost use Rattle.std.specs.Prelude.{◌≡◌, ◌*◌, ◌≤◌, map, unsigned_abs};
 ghost use Rattle.exact.specs.Sums.{Bounded};
 ghost use Rattle.hevc.specs.Scaling.{scale, log2, coefficient};
@@ -10,7 +10,7 @@ use exact::{clip16, round_shift};
 // The scaling numbers, by the remainder of the step by 6.
 const SCALES: [u32; 6] = [40, 45, 51, 57, 64, 72];
 
-// How levels are scaled at a side and a step.
+// The scaling at a side and a step.
 #[derive(Clone, Copy)]
 pub(crate) struct Scaling {
     pub(crate) side: Side,
