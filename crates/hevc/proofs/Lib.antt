@@ -1,3 +1,5 @@
 pub mod Terms
+pub mod Places
+pub mod Logs
 pub mod TwoPasses
 pub mod Usable

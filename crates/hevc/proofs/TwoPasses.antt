@@ -1,5 +1,5 @@
--- Two passes of a kernel with rows turned into columns between them, over plain lists. Assumes nothing.
-use Rattle.std.proofs.Common.{◌≡◌, ℕ, ◌+◌, ◌*◌, ◌^◌, ◌≤◌, List, length, ℤ, pos, ◌+ℤ◌, ◌*ℤ◌, nat_abs, sym, refl, ap, ◌∙◌, subst, arith}
+-- Two passes over a block. Assumes nothing.
+use Rattle.std.proofs.Common.{◌≡◌, ℕ, ◌+◌, ◌*◌, ◌^◌, ◌≤◌, List, length, map, ℤ, pos, ◌+ℤ◌, ◌*ℤ◌, nat_abs, sym, refl, ap, ◌∙◌, arith}
 use Rattle.std.proofs.lemmas.Nat.{mul-le}
 use Rattle.exact.specs.Sums.{Matrix, product, transposed, Bounded}
 use Rattle.exact.specs.Blocks.{at, block}
@@ -8,63 +8,73 @@ use Rattle.exact.proofs.Sums.{product_abs, product_ext, product_transposed}
 use Rattle.exact.proofs.Blocks.{at_block, block_at, block_ext, block_bounded}
 use Rattle.exact.proofs.Rounding.{clip_abs}
 use Rattle.hevc.specs.Scaling.{scale, log2, coefficient}
-use Rattle.hevc.specs.Passes.{coefficients, columns, rebuilt_by, spectrum, chosen_by}
 use Rattle.hevc.specs.Turning.{turned_by}
+use Rattle.hevc.specs.Passes.{passed, coefficients, columns, rebuilt_by, spectrum, chosen_by}
+use Rattle.transform.proofs.Sides.{shape_parts, side_range}
+use Rattle.transform.specs.Ranges.{residuals_bounded, shorts_bounded}
+use Rattle.hevc.proofs.Places.{map_block}
 
--- one pass: the product of P with the block xs of Q, each sum through f, turned
-pub pass_is : (N : ℕ) (f : ℤ → ℤ) (P Q : Matrix) (xs ys zs : List ℤ) → xs ≡ block N Q → ys ≡ block N (product N P (at N xs)) → zs ≡ block N (turned_by f N ys) → zs ≡ block N (λ i j. f (product N P Q j i))
-pass_is N f P Q xs ys zs a b c = c ∙ block_ext N (turned_by f N ys) (λ i j. f (product N P Q j i))
-    (λ i j h l. ap f (ap (λ ws. at N ws j i) b ∙ at_block N (product N P (at N xs)) j i l h
-    ∙ product_ext N P (at N xs) P Q j i (λ _ _. refl) (λ k lt. ap (λ ws. at N ws k i) a ∙ at_block N Q k i lt h)))
+-- the two steps of a pass
+pub passed_is : (N : ℕ) (f : ℤ → ℤ) (P : Matrix) (xs sums ys : List ℤ) → sums ≡ block N (product N P (at N xs)) → ys ≡ block N (turned_by f N sums) → ys ≡ passed f P N xs
+passed_is N f P xs sums ys a b = b ∙ ap (λ zs. block N (turned_by f N zs)) a
 
--- what the code does to the sums after the columns and after the rows
-abbrev after_columns : ℤ → ℤ
+-- a pass over the block of Q
+passed_block : (N : ℕ) (f : ℤ → ℤ) (P Q : Matrix) → passed f P N (block N Q) ≡ block N (λ i j. f (product N P Q j i))
+passed_block N f P Q = block_ext N _ _
+    (λ i j h l. ap f (at_block N (product N P (at N (block N Q))) j i l h
+    ∙ product_ext N P (at N (block N Q)) P Q j i (λ _ _. refl) (λ k lt. at_block N Q k i lt h)))
+
+-- what is done to the sums after the columns and after the rows
+abbrev pub after_columns : ℤ → ℤ
 after_columns z = clip16 (floor_shift (z +ℤ pos 64) 7)
 
-abbrev after_rows : ℤ → ℤ
+abbrev pub after_rows : ℤ → ℤ
 after_rows z = floor_shift (z +ℤ pos 2048) 12
 
-pub rebuilt_is : (A : Matrix) (N q : ℕ) (levels cells sums turned sums' out : List ℤ) →
-    cells ≡ block N (coefficients N q (at N levels)) →
-    sums ≡ block N (product N (transposed A) (at N cells)) →
-    turned ≡ block N (turned_by after_columns N sums) →
-    sums' ≡ block N (product N (transposed A) (at N turned)) →
-    out ≡ block N (turned_by after_rows N sums') →
-    out ≡ rebuilt_by A N q levels
-unfolding rebuilt_by
-rebuilt_is A N q levels cells sums turned sums' out a b c d e =
-    pass_is N after_rows (transposed A) (transposed (columns N A (coefficients N q (at N levels)))) turned sums' out
-    (pass_is N after_columns (transposed A) (coefficients N q (at N levels)) cells sums turned a b c) d e
+module _ (A : Matrix) (N q : ℕ) (xs : List ℤ) (many : length xs ≡ N * N) where
+  pub scaled_is : map (coefficient (log2 N) (scale q)) xs ≡ block N (coefficients N q (at N xs))
+  scaled_is = map_block N (coefficient (log2 N) (scale q)) xs many
 
-pub chosen_is : (A : Matrix) (N q divisor : ℕ) (xs sums turned sums' out : List ℤ) →
-    length xs ≡ N * N →
-    divisor ≡ 64 * N * scale q →
-    sums ≡ block N (product N A (at N xs)) →
-    turned ≡ block N (turned_by (λ z. z) N sums) →
-    sums' ≡ block N (product N A (at N turned)) →
-    out ≡ block N (turned_by (λ z. nearest z divisor) N sums') →
-    out ≡ chosen_by A N q xs
-unfolding chosen_by
-chosen_is A N q divisor xs sums turned sums' out len div a b c d =
-    let X = at N xs in
-    pass_is N (λ z. nearest z divisor) A (transposed (product N A X)) turned sums' out
-    (pass_is N (λ z. z) A X xs sums turned (block_at N xs len) a b) c d
-    ∙ block_ext N _ _ (λ i j h l. ap (λ z. nearest z divisor) (sym (product_transposed N (product N A X) (transposed A) i j)) ∙ ap (nearest (spectrum N A X i j)) div)
+  pub rebuilt_is : passed after_rows (transposed A) N (passed after_columns (transposed A) N (map (coefficient (log2 N) (scale q)) xs)) ≡ rebuilt_by A N q xs
+  unfolding rebuilt_by
+  rebuilt_is =
+      let C = coefficients N q (at N xs) in
+      ap (λ ys. passed after_rows (transposed A) N (passed after_columns (transposed A) N ys)) scaled_is
+      ∙ ap (passed after_rows (transposed A) N) (passed_block N after_columns (transposed A) C)
+      ∙ passed_block N after_rows (transposed A) (transposed (columns N A C))
 
--- ---- bounds
+  pub chosen_is : (divisor : ℕ) → divisor ≡ 64 * N * scale q → passed (λ z. nearest z divisor) A N (passed (λ z. z) A N xs) ≡ chosen_by A N q xs
+  unfolding chosen_by
+  chosen_is divisor e =
+      let X = at N xs in
+      ap (λ ys. passed (λ z. nearest z divisor) A N (passed (λ z. z) A N ys)) (block_at N xs many)
+      ∙ ap (passed (λ z. nearest z divisor) A N) (passed_block N (λ z. z) A X)
+      ∙ passed_block N (λ z. nearest z divisor) A (transposed (product N A X))
+      ∙ block_ext N _ _ (λ i j h l. ap (λ z. nearest z divisor) (sym (product_transposed N (product N A X) (transposed A) i j)) ∙ ap (nearest (spectrum N A X i j)) e)
+
+-- ---- bounds, each of the list that an equation names
+pub bounded_along : (m n : ℕ) (xs ys : List ℤ) → m ≤ n → ys ≡ xs → Bounded m xs → Bounded n ys
+bounded_along m n xs ys le e b = rw e (λ k. omega (arith, b k))
+
 -- the sums of a product, where the entries are at most 90 and the numbers at most m
 pub sums_bounded : (N m n : ℕ) (P : Matrix) (xs ys : List ℤ) → N ≤ 32 → 32 * (90 * m) ≤ n → ((i j : ℕ) → nat_abs (P i j) ≤ 90) → Bounded m xs → ys ≡ block N (product N P (at N xs)) → Bounded n ys
-sums_bounded N m n P xs ys le lt h b e = subst (Bounded n) (sym e) (block_bounded N n (product N P (at N xs))
+sums_bounded N m n P xs ys le lt h b e = bounded_along n n _ ys (omega arith) e (block_bounded N n (product N P (at N xs))
     (λ i j _ _. omega (arith, product_abs N P (at N xs) i j 90 m (λ k _. h i k) (λ k _. b (k * N + j)), mul-le N (90 * m) 32 (90 * m) le (omega arith))))
 
--- a block turned as it is
-pub turned_bounded : (N m : ℕ) (xs ys : List ℤ) → Bounded m xs → ys ≡ block N (turned_by (λ z. z) N xs) → Bounded m ys
-turned_bounded N m xs ys b e = subst (Bounded m) (sym e) (block_bounded N m (turned_by (λ z. z) N xs) (λ i j _ _. b (j * N + i)))
+-- the same after a pass that rounds nothing
+pub unrounded_bounded : (N m n : ℕ) (P : Matrix) (xs ys : List ℤ) → N ≤ 32 → 32 * (90 * m) ≤ n → ((i j : ℕ) → nat_abs (P i j) ≤ 90) → Bounded m xs → ys ≡ passed (λ z. z) P N xs → Bounded n ys
+unrounded_bounded N m n P xs ys le lt h b e =
+    bounded_along n n _ ys (omega arith) e (block_bounded N n _ (λ i j _ _. sums_bounded N m n P xs _ le lt h b refl (j * N + i)))
 
--- what is clipped fits 16 bits
-pub clipped_bounded : (N : ℕ) (xs ys : List ℤ) → ys ≡ block N (turned_by after_columns N xs) → Bounded 32768 ys
-clipped_bounded N xs ys e = subst (Bounded 32768) (sym e) (block_bounded N 32768 (turned_by after_columns N xs) (λ i j _ _. clip_abs (floor_shift (at N xs j i +ℤ pos 64) 7)))
+-- after a pass that clips, and where levels are scaled, all fits 16 bits
+pub clipped_bounded : (N : ℕ) (P : Matrix) (xs ys : List ℤ) → ys ≡ passed after_columns P N xs → Bounded 32768 ys
+clipped_bounded N P xs ys e =
+    bounded_along 32768 32768 _ ys (omega arith) e (block_bounded N 32768 _ (λ i j _ _. clip_abs (floor_shift (at N (block N (product N P (at N xs))) j i +ℤ pos 64) 7)))
 
-pub coefficients_bounded : (N q : ℕ) (levels : Matrix) (ys : List ℤ) → ys ≡ block N (coefficients N q levels) → Bounded 32768 ys
+pub coefficients_bounded : (N q : ℕ) (xs ys : List ℤ) → length xs ≡ N * N → ys ≡ map (coefficient (log2 N) (scale q)) xs → Bounded 32768 ys
 unfolding coefficient
-coefficients_bounded N q levels ys e = subst (Bounded 32768) (sym e) (block_bounded N 32768 (coefficients N q levels) (λ i j _ _. clip_abs (floor_shift (levels i j *ℤ pos (16 * scale q) +ℤ pos (2 ^ (log2 N + 2))) (log2 N + 3))))
+coefficients_bounded N q xs ys many e =
+    bounded_along 32768 32768 _ ys (omega arith) (e ∙ map_block N _ xs many) (block_bounded N 32768 (coefficients N q (at N xs)) (λ i j _ _. clip_abs (floor_shift (at N xs i j *ℤ pos (16 * scale q) +ℤ pos (2 ^ (log2 N + 2))) (log2 N + 3))))
+
+-- what a way through a block, in two passes, needs
+pub ruleset ways = (shape_parts, residuals_bounded, shorts_bounded, bounded_along, clipped_bounded, coefficients_bounded)

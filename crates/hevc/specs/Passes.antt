@@ -4,6 +4,11 @@ use Rattle.exact.specs.Sums.{Matrix, product, transposed}
 use Rattle.exact.specs.Blocks.{at, block}
 use Rattle.exact.specs.Rounding.{clip16, floor_shift, nearest}
 use Rattle.hevc.specs.Scaling.{scale, log2, coefficient}
+use Rattle.hevc.specs.Turning.{turned_by}
+
+-- what one pass makes of a block: its product with P, each sum through f, rows turned into columns
+abbrev pub passed : (ℤ → ℤ) → Matrix → ℕ → List ℤ → List ℤ
+passed f P N xs = block N (turned_by f N (block N (product N P (at N xs))))
 
 -- each level scaled
 abbrev pub coefficients : ℕ → ℕ → Matrix → Matrix

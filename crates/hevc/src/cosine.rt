@@ -1,13 +1,14 @@
 // The cosine kernel of HEVC by plain matrix sums.
-ghost use Rattle.std.specs.Prelude.{◌≡◌, ℕ, ◌+◌, ◌*◌, ◌<◌, ◌≤◌, true, length, pos, ◌*ℤ◌, ◌≤ℤ◌, unsigned_abs};
+ghost use Rattle.std.specs.Prelude.{◌≡◌, ◌*◌, ◌<◌, ◌≤◌, length, ◌*ℤ◌, unsigned_abs};
 ghost use Rattle.exact.specs.Sums.{product, Bounded};
-ghost use Rattle.exact.specs.Blocks.{at, block, placed, Filled};
+ghost use Rattle.exact.specs.Blocks.{at, block};
 ghost use Rattle.transform.specs.Meaning.{sided};
 ghost use Rattle.hevc.specs.Cosine.{first, cosine32, cosine, turned_if};
 ghost use Rattle.hevc.specs.Limits.{input_limit, term_limit};
 ghost use Rattle.hevc.specs.Entries.{cosine_abs};
 
 use crate::kernel::Kernel;
+use crate::side::Side;
 use transform::is_side;
 
 // The numbers of the first column, by row.
@@ -16,15 +17,16 @@ const FIRST_COLUMN: [i32; 32] = [
     36, 31, 25, 22, 18, 13, 9, 4,
 ];
 
+#[tactic(auto, unfolding(crate::specs::Cosine::first))]
 fn first_of(t: usize) -> i32
     requires { t < 32 }
-    ensures value { result ≡ first t }
-    ensures small { (pos 0 ≤ℤ result) × (result ≤ℤ pos 90) }
+    ensures { result ≡ first t }
 {
     FIRST_COLUMN[t]
 }
 
 // Row k, column n of the 32-point matrix.
+#[tactic(auto, using(crate::proofs::Terms::entries), unfolding(crate::specs::Cosine::cosine32))]
 fn entry32(k: usize, n: usize) -> i32
     requires { (k < 32) × (n < 32) }
     ensures { result ≡ cosine32 k n }
@@ -43,68 +45,64 @@ fn entry32(k: usize, n: usize) -> i32
     }
 }
 
-// Row i, column j of the matrix of a side, or of its transpose.
-fn entry_of(side: usize, turned: bool, i: usize, j: usize) -> i32
-    requires side { sided side ≡ true }
-    requires place { (i < side) × (j < side) }
-    ensures { result ≡ turned_if turned (cosine side) i j }
-{
-    if turned {
-        entry32(j * (32 / side), i)
-    } else {
-        entry32(i * (32 / side), j)
+// The product of a side's matrix, or of its transpose, and a block.
+#[derive(Clone, Copy)]
+struct Product<'a> {
+    side: Side,
+    turned: bool,
+    given: &'a [i32],
+    ghost many: { length given.now ≡ side.len * side.len },
+    ghost small: { Bounded input_limit given.now },
+}
+
+impl Product<'_> {
+    // Row i, column j of the matrix.
+    fn entry(&self, i: usize, j: usize) -> i32
+        requires { (i < self.now.side.len) × (j < self.now.side.len) }
+        ensures { result ≡ turned_if self.now.turned (cosine self.now.side.len) i j }
+    {
+        if self.turned {
+            entry32(j * (32 / self.side.len), i)
+        } else {
+            entry32(i * (32 / self.side.len), j)
+        }
     }
-}
 
-// An entry times a number of a block.
-fn term(side: usize, turned: bool, i: usize, j: usize, x: i32) -> i32
-    requires side { sided side ≡ true }
-    requires place { (i < side) × (j < side) }
-    requires small { unsigned_abs x ≤ input_limit }
-    ensures value { result ≡ turned_if turned (cosine side) i j *ℤ x }
-    ensures small { unsigned_abs result ≤ term_limit }
-{
-    entry_of(side, turned, i, j) * x
-}
-
-// Row i of the matrix times column j of a block.
-fn dot(side: usize, turned: bool, given: &[i32], i: usize, j: usize) -> i32
-    requires side { sided side ≡ true }
-    requires place { (i < side) × (j < side) }
-    requires len { length given.now ≡ side * side }
-    requires small { Bounded input_limit given.now }
-    ensures { result ≡ product side (turned_if turned (cosine side)) (at side given.now) i j }
-{
-    let mut sum = 0;
-    for k in 0..side {
-        sum += term(side, turned, i, k, given[k * side + j]);
+    // Row i, column k of the matrix times row k, column j of the block.
+    #[tactic(auto, using(crate::proofs::Terms::terms))]
+    fn term(&self, i: usize, j: usize, k: usize) -> i32
+        requires { (i < self.now.side.len) × (j < self.now.side.len) × (k < self.now.side.len) }
+        ensures value { let n = self.now.side.len in result ≡ turned_if self.now.turned (cosine n) i k *ℤ at n self.now.given.now k j }
+        ensures small { unsigned_abs result ≤ term_limit }
+    {
+        self.entry(i, k) * self.given[k * self.side.len + j]
     }
-    sum
-}
 
-// Row i of a product.
-fn multiply_row(side: usize, turned: bool, given: &[i32], i: usize, out: &mut [i32])
-    requires side { sided side ≡ true }
-    requires place { i < side }
-    requires len { (length given.now ≡ side * side) × (length out.old ≡ side * side) }
-    requires small { Bounded input_limit given.now }
-    requires above { Filled (i * side) (placed side (product side (turned_if turned (cosine side)) (at side given.now))) out.old }
-    ensures { Filled ((i + 1) * side) (placed side (product side (turned_if turned (cosine side)) (at side given.now))) out.new }
-{
-    for j in 0..side {
-        out[i * side + j] = dot(side, turned, given, i, j);
+    // Row i of the matrix times column j of the block. The index k is a column of the one and a row of the other, so it is
+    // counted.
+    #[tactic(auto, using(crate::proofs::Terms::sums))]
+    fn sum(&self, i: usize, j: usize) -> i32
+        requires { (i < self.now.side.len) × (j < self.now.side.len) }
+        ensures { let n = self.now.side.len in result ≡ product n (turned_if self.now.turned (cosine n)) (at n self.now.given.now) i j }
+    {
+        let mut sum = 0;
+        for k in 0..self.side.len {
+            sum += self.term(i, j, k);
+        }
+        sum
     }
-}
 
-// The matrix, or its transpose, times a block.
-fn multiply_block(side: usize, turned: bool, given: &[i32], out: &mut [i32])
-    requires side { sided side ≡ true }
-    requires len { (length given.now ≡ side * side) × (length out.old ≡ side * side) }
-    requires small { Bounded input_limit given.now }
-    ensures { out.new ≡ block side (product side (turned_if turned (cosine side)) (at side given.now)) }
-{
-    for i in 0..side {
-        multiply_row(side, turned, given, i, out);
+    // The whole product. Its two callers say which matrix, and inlined it need not ask again for each entry.
+    #[inline(always)]
+    #[tactic(auto, using(crate::proofs::Places::places))]
+    fn write(&self, out: &mut [i32])
+        requires { length out.old ≡ self.now.side.len * self.now.side.len }
+        ensures { let n = self.now.side.len in out.new ≡ block n (product n (turned_if self.now.turned (cosine n)) (at n self.now.given.now)) }
+    {
+        for (place, number) in out.iter_mut().enumerate() {
+            let (i, j) = self.side.row_and_column(place);
+            *number = self.sum(i, j);
+        }
     }
 }
 
@@ -123,11 +121,21 @@ impl Kernel for MatrixSums {
         is_side(side)
     }
 
-    fn multiply_transposed(&self, side: usize, given: &[i32], out: &mut [i32]) {
-        multiply_block(side, true, given, out);
+    fn multiply_transposed(&self, side: Side, given: &[i32], out: &mut [i32]) {
+        let transposed = Product {
+            side,
+            turned: true,
+            given,
+        };
+        transposed.write(out);
     }
 
-    fn multiply(&self, side: usize, given: &[i32], out: &mut [i32]) {
-        multiply_block(side, false, given, out);
+    fn multiply(&self, side: Side, given: &[i32], out: &mut [i32]) {
+        let straight = Product {
+            side,
+            turned: false,
+            given,
+        };
+        straight.write(out);
     }
 }

@@ -10,15 +10,21 @@ ghost use Rattle.transform.specs.Serving.{only_sound};
 ghost use Rattle.hevc.specs.Laws.{rules_sound};
 
 mod cosine;
+mod factor;
 mod kernel;
 mod passes;
 mod rounding;
 mod scaling;
+mod side;
 
 pub use cosine::MatrixSums;
 use exact::nearest;
+use factor::{KernelAt, Transposed};
 pub use kernel::Kernel;
-use passes::{choose_block, rebuild_block};
+use passes::pass;
+use rounding::{AfterColumns, AfterRows, Unrounded};
+use scaling::Scaling;
+pub use side::Side;
 use transform::{Fault, Mode, Transform};
 
 // The number of HEVC among the standards.
@@ -47,22 +53,38 @@ impl<K: Kernel> Transform for Hevc<K> {
         mode.standard == STANDARD && self.kernel.serves(mode.side) && mode.step <= 51
     }
 
+    #[tactic(auto, using(crate::proofs::TwoPasses::ways))]
     fn choose_legal(&self, mode: Mode, residual: &[i32], levels: &mut [i32]) {
-        match mode.side {
-            4 => choose_block::<K, 16>(&self.kernel, mode.side, mode.step, residual, levels),
-            8 => choose_block::<K, 64>(&self.kernel, mode.side, mode.step, residual, levels),
-            16 => choose_block::<K, 256>(&self.kernel, mode.side, mode.step, residual, levels),
-            _ => choose_block::<K, 1024>(&self.kernel, mode.side, mode.step, residual, levels),
+        let side = Side { len: mode.side };
+        let matrix = KernelAt {
+            kernel: &self.kernel,
+            side,
+        };
+        let rounding = Scaling {
+            side,
+            step: mode.step,
         }
+        .to_levels();
+        levels.copy_from_slice(residual);
+        pass(&matrix, &Unrounded, levels);
+        pass(&matrix, &rounding, levels);
     }
 
+    #[tactic(auto, using(crate::proofs::TwoPasses::ways))]
     fn rebuild_legal(&self, mode: Mode, levels: &[i32], residual: &mut [i32]) -> Option<()> {
-        match mode.side {
-            4 => rebuild_block::<K, 16>(&self.kernel, mode.side, mode.step, levels, residual),
-            8 => rebuild_block::<K, 64>(&self.kernel, mode.side, mode.step, levels, residual),
-            16 => rebuild_block::<K, 256>(&self.kernel, mode.side, mode.step, levels, residual),
-            _ => rebuild_block::<K, 1024>(&self.kernel, mode.side, mode.step, levels, residual),
+        let side = Side { len: mode.side };
+        let matrix = Transposed(KernelAt {
+            kernel: &self.kernel,
+            side,
+        });
+        residual.copy_from_slice(levels);
+        Scaling {
+            side,
+            step: mode.step,
         }
+        .scale_all(residual);
+        pass(&matrix, &AfterColumns, residual);
+        pass(&matrix, &AfterRows, residual);
         Some(())
     }
 }
@@ -98,7 +120,8 @@ pub fn rebuild(side: usize, step: u32, levels: &[i32], residual: &mut [i32]) -> 
 fn rebuilt_first(level: i32) -> i32
     ensures { result ≡ slice_index_or (result_unwrap_or (rebuilding hevc 0 4 4 (level ∷ replicate 15 (pos 0)) 16) (replicate 16 (pos 0))) 0 (pos 0) }
 {
-    let levels = [level, 0, 0, 0, 0, 0, 0, 0, 0, 0, 0, 0, 0, 0, 0, 0];
+    let mut levels = [0; 16];
+    levels[0] = level;
     let mut residual = [0; 16];
     let _ = rebuild(4, 4, &levels, &mut residual);
     residual[0]

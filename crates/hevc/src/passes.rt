@@ -1,108 +1,38 @@
-// A whole block, in two dimensions, over any kernel: two passes of the kernel, with the scaling, clipping and rounding
-// between them.
-ghost use Rattle.std.specs.Prelude.{◌≡◌, ℕ, ◌*◌, ◌≤◌, true, length};
+// One pass over a block, in place, over any factor and any rounding.
+ghost use Rattle.std.specs.Prelude.{◌≡◌, ◌*◌, length};
 ghost use Rattle.exact.specs.Sums.{Bounded};
-ghost use Rattle.transform.specs.Meaning.{sided};
-ghost use Rattle.hevc.specs.Passes.{rebuilt_by, chosen_by};
-ghost use Rattle.hevc.specs.Scaling.{scale};
+ghost use Rattle.hevc.specs.Passes.{passed};
 
-use crate::kernel::Kernel;
-use crate::rounding::{AfterColumns, AfterRows, ToLevels, Unrounded, turn};
-use crate::scaling::{scale_levels, scale_of};
+use crate::factor::Factor;
+use crate::rounding::Rounding;
 
-// The residual block rebuilt from levels, with room for one block of numbers and one of sums.
-fn rebuild_in<K: Kernel>(
-    kernel: &K,
-    side: usize,
-    step: u32,
-    levels: &[i32],
-    cells: &mut [i32],
-    sums: &mut [i32],
-    residual: &mut [i32],
-)
-    requires side { (sided side ≡ true) × (K.served kernel.now side ≡ true) }
-    requires step { step ≤ 51 }
-    requires len { (length levels.now ≡ side * side) × (length residual.old ≡ side * side) }
-    requires room { (length cells.old ≡ side * side) × (length sums.old ≡ side * side) }
-    requires range { Bounded 32768 levels.now }
-    ensures { residual.new ≡ rebuilt_by (K.matrix kernel.now side) side step levels.now }
+// The block times a factor, each sum rounded, and rows turned into columns. The block is the caller's slice, so that its
+// length is asked for, as a kernel asks.
+pub(crate) fn pass<F: Factor, R: Rounding>(factor: &F, rounding: &R, cells: &mut [i32])
+    requires len { length cells.old ≡ F.len factor.now * F.len factor.now }
+    requires small { Bounded (F.limit factor.now) cells.old }
+    ensures { cells.new ≡ passed (R.rounded rounding.now) (F.factor factor.now) (F.len factor.now) cells.old }
 {
-    scale_levels(side, step, levels, cells);
-    kernel.multiply_transposed(side, cells, sums);
-    turn(&AfterColumns, side, sums, cells);
-    kernel.multiply_transposed(side, cells, sums);
-    turn(&AfterRows, side, sums, residual);
-}
-
-// The levels chosen for a residual block, with room likewise.
-fn choose_in<K: Kernel>(
-    kernel: &K,
-    side: usize,
-    step: u32,
-    residual: &[i32],
-    cells: &mut [i32],
-    sums: &mut [i32],
-    levels: &mut [i32],
-)
-    requires side { (sided side ≡ true) × (K.served kernel.now side ≡ true) }
-    requires step { step ≤ 51 }
-    requires len { (length residual.now ≡ side * side) × (length levels.old ≡ side * side) }
-    requires room { (length cells.old ≡ side * side) × (length sums.old ≡ side * side) }
-    requires range { Bounded 255 residual.now }
-    ensures { levels.new ≡ chosen_by (K.matrix kernel.now side) side step residual.now }
-{
-    let rounding = to_levels(side, step);
-    kernel.multiply(side, residual, sums);
-    turn(&Unrounded, side, sums, cells);
-    kernel.multiply(side, cells, sums);
-    turn(&rounding, side, sums, levels);
-}
-
-// The rounding to levels at a side and a step.
-fn to_levels(side: usize, step: u32) -> ToLevels
-    requires side { sided side ≡ true }
-    requires step { step ≤ 51 }
-    ensures { result.divisor ≡ 64 * side * scale step }
-{
-    ToLevels {
-        divisor: 64 * side as u32 * scale_of(step),
+    match factor.side().len {
+        4 => pass_by::<F, R, 16>(factor, rounding, cells),
+        8 => pass_by::<F, R, 64>(factor, rounding, cells),
+        16 => pass_by::<F, R, 256>(factor, rounding, cells),
+        _ => pass_by::<F, R, 1024>(factor, rounding, cells),
     }
 }
 
-// The residual block of AREA samples rebuilt from levels.
-pub(crate) fn rebuild_block<K: Kernel, const AREA: usize>(
-    kernel: &K,
-    side: usize,
-    step: u32,
-    levels: &[i32],
-    residual: &mut [i32],
-)
-    requires side { (sided side ≡ true) × (K.served kernel.now side ≡ true) × (AREA ≡ side * side) }
-    requires step { step ≤ 51 }
-    requires len { (length levels.now ≡ side * side) × (length residual.old ≡ side * side) }
-    requires range { Bounded 32768 levels.now }
-    ensures { residual.new ≡ rebuilt_by (K.matrix kernel.now side) side step levels.now }
+// The same with scratch for AREA sums, no larger than the block.
+#[tactic(auto, using(crate::proofs::Places::places, crate::proofs::TwoPasses::passed_is))]
+fn pass_by<F: Factor, R: Rounding, const AREA: usize>(factor: &F, rounding: &R, cells: &mut [i32])
+    requires len { (length cells.old ≡ F.len factor.now * F.len factor.now) × (AREA ≡ F.len factor.now * F.len factor.now) }
+    requires small { Bounded (F.limit factor.now) cells.old }
+    ensures { cells.new ≡ passed (R.rounded rounding.now) (F.factor factor.now) (F.len factor.now) cells.old }
 {
-    let mut cells = [0i32; AREA];
-    let mut sums = [0i32; AREA];
-    rebuild_in(kernel, side, step, levels, &mut cells, &mut sums, residual);
-}
-
-// The levels chosen for a residual block of AREA samples.
-pub(crate) fn choose_block<K: Kernel, const AREA: usize>(
-    kernel: &K,
-    side: usize,
-    step: u32,
-    residual: &[i32],
-    levels: &mut [i32],
-)
-    requires side { (sided side ≡ true) × (K.served kernel.now side ≡ true) × (AREA ≡ side * side) }
-    requires step { step ≤ 51 }
-    requires len { (length residual.now ≡ side * side) × (length levels.old ≡ side * side) }
-    requires range { Bounded 255 residual.now }
-    ensures { levels.new ≡ chosen_by (K.matrix kernel.now side) side step residual.now }
-{
-    let mut cells = [0i32; AREA];
-    let mut sums = [0i32; AREA];
-    choose_in(kernel, side, step, residual, &mut cells, &mut sums, levels);
+    let mut sums = [0; AREA];
+    factor.multiply(cells, &mut sums);
+    let side = factor.side();
+    for (place, cell) in cells.iter_mut().enumerate() {
+        let (i, j) = side.row_and_column(place);
+        *cell = rounding.round(sums[j * side.len + i]);
+    }
 }

@@ -1,10 +1,6 @@
-// What is done to the sums of a pass, and the turning of rows into columns between two passes.
-ghost use Rattle.std.specs.Prelude.{◌≡◌, ℕ, ◌+◌, ◌*◌, ◌<◌, ◌≤◌, true, length, ℤ, pos, ◌+ℤ◌, unsigned_abs};
-ghost use Rattle.exact.specs.Sums.{Bounded};
-ghost use Rattle.exact.specs.Blocks.{block, placed, Filled};
+// What is done to the sums of a pass.
+ghost use Rattle.std.specs.Prelude.{◌≡◌, ◌<◌, ◌≤◌, ℤ, pos, ◌+ℤ◌, unsigned_abs};
 ghost use Rattle.exact.specs.Rounding.{clip16 as clipped, floor_shift, nearest as nearest_to};
-ghost use Rattle.transform.specs.Meaning.{sided};
-ghost use Rattle.hevc.specs.Turning.{turned_by};
 ghost use Rattle.hevc.specs.Limits.{sum_limit};
 
 use exact::{clip16, nearest, round_shift};
@@ -64,33 +60,8 @@ pub(crate) struct ToLevels {
 impl Rounding for ToLevels {
     ghost rounded = { λ t z. nearest_to z t.divisor };
 
+    #[tactic(auto, using(crate::proofs::Terms::level_fits, crate::proofs::Terms::level_back))]
     fn round(&self, sum: i32) -> i32 {
         nearest(sum as i64, self.divisor as u64) as i32
-    }
-}
-
-// Row i of a block, from column i of the sums.
-fn turn_row<R: Rounding>(rounding: &R, side: usize, sums: &[i32], i: usize, out: &mut [i32])
-    requires side { sided side ≡ true }
-    requires place { i < side }
-    requires len { (length sums.now ≡ side * side) × (length out.old ≡ side * side) }
-    requires small { Bounded sum_limit sums.now }
-    requires above { Filled (i * side) (placed side (turned_by (R.rounded rounding.now) side sums.now)) out.old }
-    ensures { Filled ((i + 1) * side) (placed side (turned_by (R.rounded rounding.now) side sums.now)) out.new }
-{
-    for j in 0..side {
-        out[i * side + j] = rounding.round(sums[j * side + i]);
-    }
-}
-
-// Each sum rounded, and rows turned into columns.
-pub(crate) fn turn<R: Rounding>(rounding: &R, side: usize, sums: &[i32], out: &mut [i32])
-    requires side { sided side ≡ true }
-    requires len { (length sums.now ≡ side * side) × (length out.old ≡ side * side) }
-    requires small { Bounded sum_limit sums.now }
-    ensures { out.new ≡ block side (turned_by (R.rounded rounding.now) side sums.now) }
-{
-    for i in 0..side {
-        turn_row(rounding, side, sums, i, out);
     }
 }

@@ -1,60 +1,59 @@
-// Levels scaled to coefficients.
-ghost use Rattle.std.specs.Prelude.{◌≡◌, ℕ, ◌+◌, ◌*◌, ◌<◌, ◌≤◌, true, length, unsigned_abs};
-ghost use Rattle.exact.specs.Blocks.{at, block};
+// Levels scaled to coefficients, and the rounding back to levels.
+ghost use Rattle.std.specs.Prelude.{◌≡◌, ◌*◌, ◌≤◌, map, unsigned_abs};
 ghost use Rattle.exact.specs.Sums.{Bounded};
-ghost use Rattle.transform.specs.Meaning.{sided, shorts};
 ghost use Rattle.hevc.specs.Scaling.{scale, log2, coefficient};
-ghost use Rattle.hevc.specs.Passes.{coefficients};
 
+use crate::rounding::ToLevels;
+use crate::side::Side;
 use exact::{clip16, round_shift};
 
 // The scaling numbers, by the remainder of the step by 6.
 const SCALES: [u32; 6] = [40, 45, 51, 57, 64, 72];
 
-// The scaling number of a step.
-pub(crate) fn scale_of(step: u32) -> u32
-    requires { step ≤ 51 }
-    ensures value { result ≡ scale step }
-    ensures range { (40 ≤ result) × (result ≤ 14592) }
-{
-    SCALES[(step % 6) as usize] * (1 << (step / 6))
+// The scaling at a side and a step.
+#[derive(Clone, Copy)]
+pub(crate) struct Scaling {
+    pub(crate) side: Side,
+    pub(crate) step: u32,
+    ghost low: { step ≤ 51 },
 }
 
-// The base-2 logarithm of a side.
-fn log_of(side: usize) -> u32
-    requires { sided side ≡ true }
-    ensures value { result ≡ log2 side }
-    ensures range { (2 ≤ result) × (result ≤ 5) }
-{
-    match side {
-        4 => 2,
-        8 => 3,
-        16 => 4,
-        _ => 5,
+impl Scaling {
+    // The scaling number of the step.
+    #[tactic(auto, using(crate::specs::Scales::scale_coded))]
+    fn scale(self) -> u32
+        ensures value { result ≡ scale self.step }
+        ensures range { (40 ≤ result) × (result ≤ 14592) }
+    {
+        SCALES[(self.step % 6) as usize] * (1 << (self.step / 6))
     }
-}
 
-// A level scaled. The factor 16 of the standard's product and of its shift cancel, so that the product fits 32 bits.
-fn coefficient_of(log: u32, scale: u32, level: i32) -> i32
-    requires side { (2 ≤ log) × (log ≤ 5) }
-    requires scale { scale ≤ 14592 }
-    requires level { unsigned_abs level ≤ 32768 }
-    ensures { result ≡ coefficient log scale level }
-{
-    clip16(round_shift(level * scale as i32, log - 1))
-}
+    // A level scaled. The factor 16 of the standard's product and of its shift cancel, so that the product fits 32 bits.
+    #[tactic(auto, using(crate::proofs::Terms::scaled))]
+    fn coefficient(self, level: i32) -> i32
+        requires { unsigned_abs level ≤ 32768 }
+        ensures { result ≡ coefficient (log2 self.side.len) (scale self.step) level }
+    {
+        clip16(round_shift(level * self.scale() as i32, self.side.log() - 1))
+    }
 
-// The levels of a block, scaled.
-pub(crate) fn scale_levels(side: usize, step: u32, levels: &[i32], out: &mut [i32])
-    requires side { sided side ≡ true }
-    requires step { step ≤ 51 }
-    requires len { (length levels.now ≡ side * side) × (length out.old ≡ side * side) }
-    requires range { Bounded 32768 levels.now }
-    ensures { out.new ≡ block side (coefficients side step (at side levels.now)) }
-{
-    let scale = scale_of(step);
-    let log = log_of(side);
-    for p in 0..out.len() {
-        out[p] = coefficient_of(log, scale, levels[p]);
+    // Levels, each scaled in its place.
+    #[tactic(auto, using(crate::proofs::Terms::mapped))]
+    pub(crate) fn scale_all(self, cells: &mut [i32])
+        requires { Bounded 32768 cells.old }
+        ensures { cells.new ≡ map (coefficient (log2 self.side.len) (scale self.step)) cells.old }
+    {
+        for cell in cells.iter_mut() {
+            *cell = self.coefficient(*cell);
+        }
+    }
+
+    // The rounding to levels.
+    pub(crate) fn to_levels(self) -> ToLevels
+        ensures { result.divisor ≡ 64 * self.side.len * scale self.step }
+    {
+        ToLevels {
+            divisor: 64 * self.side.len as u32 * self.scale(),
+        }
     }
 }

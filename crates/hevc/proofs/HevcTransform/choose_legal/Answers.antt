@@ -1,35 +1,31 @@
-use Rattle.std.proofs.Common.{◌≡◌, ◌*◌, sym, ap, arith}
-use Rattle.transform.proofs.Sides.{shape_parts, side_cases}
+use Rattle.std.proofs.Common.{sym, ap, ◌∙◌, arith}
+use Rattle.transform.proofs.Sides.{shape_parts, side_range}
 use Rattle.transform.specs.Ranges.{residuals_bounded}
-use Rattle.hevc.proofs.Usable.{usable_parts}
+use Rattle.exact.specs.Rounding.{nearest}
+use Rattle.hevc.specs.Limits.{input_limit}
+use Rattle.hevc.specs.Passes.{passed}
+use Rattle.hevc.specs.Hevc.{rules_of}
+use Rattle.hevc.proofs.TwoPasses.{chosen_is, bounded_along, unrounded_bounded}
+use Rattle.hevc.proofs.Usable.{rules_here}
 use Rattle.hevc.proofs.HevcTransform.choose_legal.Goals as goal
 
-pub choose_block-requires : goal.choose_block-requires
-choose_block-requires g c =
+pub pass-requires-2-clause-small : goal.pass-requires-2-clause-small
+pass-requires-2-clause-small g c =
+    let n = c.args.mode.side in
     let k = c.args.self.now.kernel in
-    let p = shape_parts c.args.mode.side _ _ c.requires.shape in
-    let u = usable_parts (g.K.Kernel.served k) (g.K.Kernel.matrix k) c.args.mode.standard c.args.mode.side c.args.mode.step c.requires.usable in
-    record { side = (p.0, u.side_served, ap (λ n. n * n) (sym c.in-4.is)); step = u.step_low; len = (p.1, p.2); range = residuals_bounded _ c.requires.range }
+    let s = side_range n (shape_parts n _ _ c.requires.shape).0 in
+    let b = bounded_along 255 255 _ _ (omega arith) c.copy_from_slice.ensures.after (residuals_bounded _ c.requires.range) in
+    unrounded_bounded n 255 input_limit (g.K.Kernel.matrix k n) c.copy_from_slice.new.self _ s.1 (omega arith) (g.met.K.Kernel.entries k n) b c.pass.ensures
 
-pub choose_block-requires-in-8 : goal.choose_block-requires-in-8
-choose_block-requires-in-8 g c =
+pub returns : goal.returns
+returns g c =
     let k = c.args.self.now.kernel in
-    let p = shape_parts c.args.mode.side _ _ c.requires.shape in
-    let u = usable_parts (g.K.Kernel.served k) (g.K.Kernel.matrix k) c.args.mode.standard c.args.mode.side c.args.mode.step c.requires.usable in
-    record { side = (p.0, u.side_served, ap (λ n. n * n) (sym c.in-8.is)); step = u.step_low; len = (p.1, p.2); range = residuals_bounded _ c.requires.range }
-
-pub choose_block-requires-in-16 : goal.choose_block-requires-in-16
-choose_block-requires-in-16 g c =
-    let k = c.args.self.now.kernel in
-    let p = shape_parts c.args.mode.side _ _ c.requires.shape in
-    let u = usable_parts (g.K.Kernel.served k) (g.K.Kernel.matrix k) c.args.mode.standard c.args.mode.side c.args.mode.step c.requires.usable in
-    record { side = (p.0, u.side_served, ap (λ n. n * n) (sym c.in-16.is)); step = u.step_low; len = (p.1, p.2); range = residuals_bounded _ c.requires.range }
-
-pub choose_block-requires-in_default : goal.choose_block-requires-in_default
-choose_block-requires-in_default g c =
-    let k = c.args.self.now.kernel in
-    let p = shape_parts c.args.mode.side _ _ c.requires.shape in
-    let u = usable_parts (g.K.Kernel.served k) (g.K.Kernel.matrix k) c.args.mode.standard c.args.mode.side c.args.mode.step c.requires.usable in
-    let s = side_cases c.args.mode.side p.0 in
-    let e : c.args.mode.side ≡ 32 = omega arith in
-    record { side = (p.0, u.side_served, ap (λ n. n * n) (sym e)); step = u.step_low; len = (p.1, p.2); range = residuals_bounded _ c.requires.range }
+    let n = c.args.mode.side in
+    let q = c.args.mode.step in
+    let xs = c.args.residual.now in
+    let d = c.to_levels-rounding.result.divisor in
+    let A = g.K.Kernel.matrix k n in
+    let p = shape_parts n _ _ c.requires.shape in
+    c.pass-2.ensures ∙ ap (passed (λ z. nearest z d) A n) (c.pass.ensures ∙ ap (passed (λ z. z) A n) c.copy_from_slice.ensures.after)
+    ∙ chosen_is A n q xs p.1 d c.to_levels-rounding.ensures
+    ∙ ap (λ r. r.chosen n q xs) (sym (rules_here 0 (rules_of (g.K.Kernel.served k) (g.K.Kernel.matrix k)) c.args.mode.standard n q c.requires.usable))

@@ -1,35 +1,22 @@
-use Rattle.std.proofs.Common.{◌≡◌, ◌*◌, sym, ap, arith}
-use Rattle.transform.proofs.Sides.{shape_parts, side_cases}
-use Rattle.transform.specs.Ranges.{shorts_bounded}
-use Rattle.hevc.proofs.Usable.{usable_parts}
+use Rattle.std.proofs.Common.{sym, ap, ◌∙◌, map}
+use Rattle.std.specs.Option.{unwrap_or}
+use Rattle.transform.proofs.Sides.{shape_parts}
+use Rattle.exact.specs.Sums.{transposed}
+use Rattle.hevc.specs.Scaling.{scale, log2, coefficient}
+use Rattle.hevc.specs.Passes.{passed}
+use Rattle.hevc.specs.Hevc.{rules_of}
+use Rattle.hevc.proofs.TwoPasses.{rebuilt_is, after_columns, after_rows}
+use Rattle.hevc.proofs.Usable.{rules_here}
 use Rattle.hevc.proofs.HevcTransform.rebuild_legal.Goals as goal
 
-pub rebuild_block-requires : goal.rebuild_block-requires
-rebuild_block-requires g c =
+pub returns-clause-block : goal.returns-clause-block
+returns-clause-block g c =
     let k = c.args.self.now.kernel in
-    let p = shape_parts c.args.mode.side _ _ c.requires.shape in
-    let u = usable_parts (g.K.Kernel.served k) (g.K.Kernel.matrix k) c.args.mode.standard c.args.mode.side c.args.mode.step c.requires.usable in
-    record { side = (p.0, u.side_served, ap (λ n. n * n) (sym c.in-4.is)); step = u.step_low; len = (p.1, p.2); range = shorts_bounded _ c.requires.range }
-
-pub rebuild_block-requires-in-8 : goal.rebuild_block-requires-in-8
-rebuild_block-requires-in-8 g c =
-    let k = c.args.self.now.kernel in
-    let p = shape_parts c.args.mode.side _ _ c.requires.shape in
-    let u = usable_parts (g.K.Kernel.served k) (g.K.Kernel.matrix k) c.args.mode.standard c.args.mode.side c.args.mode.step c.requires.usable in
-    record { side = (p.0, u.side_served, ap (λ n. n * n) (sym c.in-8.is)); step = u.step_low; len = (p.1, p.2); range = shorts_bounded _ c.requires.range }
-
-pub rebuild_block-requires-in-16 : goal.rebuild_block-requires-in-16
-rebuild_block-requires-in-16 g c =
-    let k = c.args.self.now.kernel in
-    let p = shape_parts c.args.mode.side _ _ c.requires.shape in
-    let u = usable_parts (g.K.Kernel.served k) (g.K.Kernel.matrix k) c.args.mode.standard c.args.mode.side c.args.mode.step c.requires.usable in
-    record { side = (p.0, u.side_served, ap (λ n. n * n) (sym c.in-16.is)); step = u.step_low; len = (p.1, p.2); range = shorts_bounded _ c.requires.range }
-
-pub rebuild_block-requires-in_default : goal.rebuild_block-requires-in_default
-rebuild_block-requires-in_default g c =
-    let k = c.args.self.now.kernel in
-    let p = shape_parts c.args.mode.side _ _ c.requires.shape in
-    let u = usable_parts (g.K.Kernel.served k) (g.K.Kernel.matrix k) c.args.mode.standard c.args.mode.side c.args.mode.step c.requires.usable in
-    let s = side_cases c.args.mode.side p.0 in
-    let e : c.args.mode.side ≡ 32 = omega arith in
-    record { side = (p.0, u.side_served, ap (λ n. n * n) (sym e)); step = u.step_low; len = (p.1, p.2); range = shorts_bounded _ c.requires.range }
+    let n = c.args.mode.side in
+    let q = c.args.mode.step in
+    let xs = c.args.levels.now in
+    let A = g.K.Kernel.matrix k n in
+    let p = shape_parts n _ _ c.requires.shape in
+    c.pass-2.ensures ∙ ap (passed after_rows (transposed A) n) (c.pass.ensures ∙ ap (passed after_columns (transposed A) n) (c.scale_all.ensures ∙ ap (map (coefficient (log2 n) (scale q))) c.copy_from_slice.ensures.after))
+    ∙ rebuilt_is A n q xs p.1
+    ∙ ap (λ r. unwrap_or (r.rebuilt n q xs) c.args.residual.now) (sym (rules_here 0 (rules_of (g.K.Kernel.served k) (g.K.Kernel.matrix k)) c.args.mode.standard n q c.requires.usable))

@@ -1,8 +1,0 @@
-use Rattle.std.proofs.Common.{◌+◌, ◌*◌}
-use Rattle.exact.specs.Sums.{product}
-use Rattle.exact.specs.Blocks.{at, placed, Filled}
-use Rattle.hevc.specs.Cosine.{cosine, turned_if}
-use Rattle.hevc.proofs.cosine.multiply_row.Given as goal
-
-abbrev pub invariant-loop-j : goal.invariant-loop-j
-invariant-loop-j l = Filled (l.i * l.side + l.j) (placed l.side (product l.side (turned_if l.turned (cosine l.side)) (at l.side l.given))) l.out
