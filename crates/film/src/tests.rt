@@ -1,8 +1,8 @@
 // Good and bad texts, each with its number; lines written among bytes that stay.
 use crate::{
     Fault, Line, Setting, Standard, UnknownStandard, Value, count_lines, fill_block, levels_len,
-    read_block, read_level, read_line, read_number, samples_len, setting_len, split_len, square_len,
-    write_levels, write_samples, write_setting, write_split, write_square,
+    read_block, read_level, read_line, read_number, samples_len, setting_len, split_len,
+    square_len, write_levels, write_samples, write_setting, write_split, write_square,
 };
 use std::test::Fail;
 
@@ -202,10 +202,15 @@ const NINES: [i32; 16] = [9; 16];
 fn blocks_of_levels(rt: HostRuntime) {
     assert_eq!(rt; read_over(NINES, b""), (Ok(()), [0; 16]));
     assert_eq!(rt;
-        read_over(NINES, b"\t0\t64"), (Ok(()), [64, 0, 0, 0, 0, 0, 0, 0, 0, 0, 0, 0, 0, 0, 0, 0])
+        read_over(NINES, b"\t0\t64"),
+        (Ok(()), [64, 0, 0, 0, 0, 0, 0, 0, 0, 0, 0, 0, 0, 0, 0, 0])
     );
     assert_eq!(rt;
-        read_over(NINES, b"\t1\t-32768\t14\t3\t15\t32767"), (Ok(()), [0, -32768, 0, 0, 0, 0, 0, 0, 0, 0, 0, 0, 0, 0, 3, 32767])
+        read_over(NINES, b"\t1\t-32768\t14\t3\t15\t32767"),
+        (
+            Ok(()),
+            [0, -32768, 0, 0, 0, 0, 0, 0, 0, 0, 0, 0, 0, 0, 3, 32767]
+        )
     );
 }
 
@@ -250,7 +255,10 @@ const SEVENS: [u8; 4] = [7; 4];
 
 #[test]
 fn blocks_of_samples(rt: HostRuntime) {
-    assert_eq!(rt; read_over(SEVENS, b"\t0\t255\t16\t1"), (Ok(()), [0, 255, 16, 1]));
+    assert_eq!(rt;
+        read_over(SEVENS, b"\t0\t255\t16\t1"),
+        (Ok(()), [0, 255, 16, 1])
+    );
     for samples in [
         b"".as_slice(),
         b"\t0\t255\t16",
@@ -292,7 +300,10 @@ fn scratch_blocks(rt: HostRuntime) {
     assert_eq!(rt; fill_block(b"\t3\t2\t1\t255", &mut samples), Ok(()));
     assert_eq!(rt; samples, [3, 2, 1, 255]);
     assert_eq!(rt; refusal(fill_block(b"\t3\t2\t1", &mut samples)), Some(10));
-    assert_eq!(rt; refusal(fill_block(b"\t3\t2\t1\t256", &mut samples)), Some(11));
+    assert_eq!(rt;
+        refusal(fill_block(b"\t3\t2\t1\t256", &mut samples)),
+        Some(11)
+    );
 }
 
 #[test]
