@@ -1,8 +1,7 @@
 -- Texts written one after another. Assumes nothing.
-use Rattle.std.proofs.Common.{◌≡◌, ℕ, zero, suc, ◌+◌, ◌<◌, ◌≤◌, List, [], ◌∷◌, ◌++◌, map, length, get_or, take, drop, set, ℤ, pos, negsuc, decimal, sym, refl, ap, ◌∙◌, subst, add-zero, add_assoc, add-one, arith, w32, SFits, to_z, of_z}
-use borrow.Rule.Slice.PartMut.{put_mid}
+use Rattle.std.proofs.Common.{◌≡◌, ℕ, zero, suc, ◌+◌, ◌<◌, ◌≤◌, List, [], ◌∷◌, ◌++◌, map, length, get_or, take, drop, ℤ, pos, negsuc, decimal, sym, refl, ap, ◌∙◌, subst, add_assoc, add-one, arith, w32, SFits, to_z, of_z}
 use Rattle.std.specs.Fmt.{signed_decimal}
-use Rattle.std.proofs.lemmas.List.{length-take, length-append, take_at, drop_at, drop-drop, set_split, append_assoc, append-nil, take-append-drop, take_more, length-drop}
+use Rattle.std.proofs.lemmas.List.{length-take, length-append, take_at, drop_at, drop-drop, append_assoc, append-nil, take_more, length-drop}
 use Rattle.std.proofs.lemmas.List.Folds.{length-flat_map-take}
 use Rattle.std.proofs.lemmas.List.FromFn.{length-enumerate_from, get_or-enumerate_from}
 use Rattle.std.proofs.lemmas.Grind.{flat_map-append}
@@ -85,22 +84,23 @@ parts_then part xs i d {x} {y} {z} h p q r =
     puts_as (sym (parts_more part xs i d h))
     (puts_then p q (record { room = omega (arith, r.room, length-flat_map-take part xs i d h, length-append (flat_map part (take i xs)) (part (get_or xs i d))) }))
 
--- a line is a letter, what stands in it, and its end: the room for each, and all three
-pub line_start : {t : List ℕ} (m : List ℕ) {l : ℕ} {x : Cursor} → t ≡ (l ∷ []) ++ (m ++ (10 ∷ [])) → HasRoom t x → HasRoom (l ∷ []) x
-line_start {t} m {l} {x} e h = record { room = omega (arith, h.room, ap length e) }
+-- a line is a letter, what stands in it, and its end: the room for each, whatever the letter, and all three
+pub line_start : {t : List ℕ} (b l : ℕ) (m : List ℕ) {x : Cursor} → t ≡ l ∷ (m ++ (10 ∷ [])) → HasRoom t x → HasRoom (b ∷ []) x
+line_start {t} b l m {x} e h = record { room = omega (arith, h.room, ap length e) }
 
-pub line_room : {t m : List ℕ} {l : ℕ} {x y : Cursor} → t ≡ (l ∷ []) ++ (m ++ (10 ∷ [])) → HasRoom t x → Puts (l ∷ []) x y → HasRoom m y
-line_room {t} {m} {l} {x} {y} e h p =
-    let r : HasRoom (m ++ (10 ∷ [])) y = room_then p (room_as e h) in
-    record { room = omega (arith, r.room, length-append m (10 ∷ [])) }
+line_more : {t : List ℕ} (m : List ℕ) {b l : ℕ} {x y : Cursor} → Puts (b ∷ []) x y → t ≡ l ∷ (m ++ (10 ∷ [])) → HasRoom t x → HasRoom (m ++ (10 ∷ [])) y
+line_more {t} m {b} {l} {x} {y} p e h = room_then p (record { room = omega (arith, h.room, ap length e) })
 
-pub line_end : {t m : List ℕ} {l : ℕ} {x y z : Cursor} → t ≡ (l ∷ []) ++ (m ++ (10 ∷ [])) → HasRoom t x → Puts (l ∷ []) x y → Puts m y z → HasRoom (10 ∷ []) z
-line_end e h p q = room_then q (room_then p (room_as e h))
+pub line_room : {t m : List ℕ} {b l : ℕ} {x y : Cursor} → Puts (b ∷ []) x y → t ≡ l ∷ (m ++ (10 ∷ [])) → HasRoom t x → HasRoom m y
+line_room {t} {m} {b} {l} {x} {y} p e h = let r = line_more _ p e h in record { room = omega (arith, r.room, length-append m (10 ∷ [])) }
 
-pub line_whole : {t m : List ℕ} {l : ℕ} {x y z w : Cursor} → t ≡ (l ∷ []) ++ (m ++ (10 ∷ [])) → HasRoom t x → Puts (l ∷ []) x y → Puts m y z → Puts (10 ∷ []) z w → Puts t x w
-line_whole e h p q r = let h = room_as e h in puts_as (sym e) (puts_then p (puts_then q r (room_then p h)) h)
+pub line_end : {t m : List ℕ} {b l : ℕ} {x y z : Cursor} → Puts (b ∷ []) x y → Puts m y z → t ≡ l ∷ (m ++ (10 ∷ [])) → HasRoom t x → HasRoom (10 ∷ []) z
+line_end p q e h = room_then q (line_more _ p e h)
 
-pub text_line : (letter : ℕ) (fs : List Field) → line_text letter fs ≡ (letter ∷ []) ++ (flat_map tabbed_text fs ++ (10 ∷ []))
+pub line_whole : {t m : List ℕ} {l : ℕ} {x y z w : Cursor} → Puts (l ∷ []) x y → Puts m y z → Puts (10 ∷ []) z w → t ≡ l ∷ (m ++ (10 ∷ [])) → HasRoom t x → Puts t x w
+line_whole p q r e h = puts_as (sym e) (puts_then p (puts_then q r (line_more _ p e h)) (room_as e h))
+
+pub text_line : (letter : ℕ) (fs : List Field) → line_text letter fs ≡ letter ∷ (flat_map tabbed_text fs ++ (10 ∷ []))
 text_line letter fs = ap (λ t. letter ∷ t) (tabbed_parts field_text fs (10 ∷ []))
 
 -- ---- the text of each line, as it is written
@@ -108,7 +108,7 @@ pub text_split : text_of split ≡ line_text 83 []
 unfolding text_of
 text_split = refl
 
-pub text_raw : (ss : List ℕ) → text_of (raw ss) ≡ (82 ∷ []) ++ (flat_map sample_text ss ++ (10 ∷ []))
+pub text_raw : (ss : List ℕ) → text_of (raw ss) ≡ 82 ∷ (flat_map sample_text ss ++ (10 ∷ []))
 unfolding text_of
 text_raw ss = ap (λ t. 82 ∷ t) (tabbed_parts decimal ss (10 ∷ []))
 
@@ -125,12 +125,12 @@ cells_parts i (pos zero ∷ zs) end = next_cell i zs end ∙ cells_parts (i + 1)
 cells_parts i (pos (suc n) ∷ zs) end = cell_part (decimal i) (signed_decimal (pos (suc n))) _ _ end (next_cell i zs end ∙ cells_parts (i + 1) zs end)
 cells_parts i (negsuc n ∷ zs) end = cell_part (decimal i) (signed_decimal (negsuc n)) _ _ end (next_cell i zs end ∙ cells_parts (i + 1) zs end)
 
-pub text_levels : (zs : List ℤ) → text_of (levels zs) ≡ (84 ∷ []) ++ (flat_map placed_text (enumerate_from 0 zs) ++ (10 ∷ []))
+pub text_levels : (zs : List ℤ) → text_of (levels zs) ≡ 84 ∷ (flat_map placed_text (enumerate_from 0 zs) ++ (10 ∷ []))
 unfolding text_of
 text_levels zs = ap (λ t. 84 ∷ t) (cells_parts 0 zs (10 ∷ []))
 
 -- and its length
-length_line : (letter : ℕ) (m : List ℕ) → 2 + length m ≡ length ((letter ∷ []) ++ (m ++ (10 ∷ [])))
+length_line : (letter : ℕ) (m : List ℕ) → 2 + length m ≡ length (letter ∷ (m ++ (10 ∷ [])))
 length_line letter m = omega (arith, length-append m (10 ∷ []))
 
 pub length_fields : (e : Entry) (letter : ℕ) (fs : List Field) → text_of e ≡ line_text letter fs → 2 + length (flat_map tabbed_text fs) ≡ length (text_of e)

@@ -12,8 +12,8 @@ pub record IsWritten (e : Entry) (x y : Cursor) : Type 0 where
   pub back : ReadsBack e
   pub found : ReadsAt e x.at y.at y.out.now
 
-pub is_written : (e : Entry) {t : List ℕ} {x y : Cursor} → text_of e ≡ t → Legal e → HasRoom (text_of e) x → Puts t x y → IsWritten e x y
-is_written e {t} {x} {y} same legal h p =
+pub is_written : (e : Entry) {t : List ℕ} {x y : Cursor} → Puts t x y → text_of e ≡ t → Legal e → HasRoom (text_of e) x → IsWritten e x y
+is_written e {t} {x} {y} p same legal h =
     let q : Puts (text_of e) x y = puts_as (sym same) p in
     let back : ReadsBack e = reads_back e legal in
     record { put = q.put; back = back; found = found_at e x.at y.at x.out.now y.out.now q.put h.room back }

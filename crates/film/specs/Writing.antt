@@ -1,4 +1,4 @@
--- What is written inside a line, field by field, and through a cursor. Assumes nothing.
+-- What is written inside a line, field by field, and through a cursor: only inner functions speak of it. Assumes nothing.
 use Rattle.std.specs.Prelude.{◌≡◌, ℕ, ◌+◌, ◌≤◌, List, [], ◌∷◌, map, length, decimal}
 use Rattle.std.specs.Fmt.{signed_decimal}
 use Rattle.film.specs.declared.field.Field.{Field}

@@ -14,6 +14,7 @@ pub(crate) struct Cursor<'a> {
 }
 
 impl Cursor<'_> {
+    // One byte.
     pub(crate) fn put(&mut self, byte: u8)
         requires { HasRoom (byte ∷ []) self.old }
         ensures { Puts (byte ∷ []) self.old self.new }
@@ -22,6 +23,7 @@ impl Cursor<'_> {
         self.at += 1;
     }
 
+    // Bytes as they are.
     fn put_bytes(&mut self, bytes: &[u8])
         requires { HasRoom bytes.now self.old }
         ensures { Puts bytes.now self.old self.new }
@@ -40,12 +42,13 @@ impl Cursor<'_> {
         self.put_bytes(field.text(&mut Buffer::new()));
     }
 
+    // Fields, each with a tab before it.
     fn put_fields(&mut self, fields: &[Field])
         requires { HasRoom (flat_map tabbed_text fields.now) self.old }
         ensures { Puts (flat_map tabbed_text fields.now) self.old self.new }
     {
-        for field in fields {
-            self.put_field(*field);
+        for &field in fields {
+            self.put_field(field);
         }
     }
 

@@ -161,7 +161,7 @@ fn line_len(fields: &[Field]) -> usize
     2 + fields_len(fields)
 }
 
-// The position and level of one cell, if its level is not 0.
+// How long the fields of one cell are: none where its level is 0.
 fn cell_len(position: u16, level: i32) -> usize
     ensures is { result ≡ length (cell_text position level) }
     ensures few { result ≤ 23 }
@@ -172,6 +172,7 @@ fn cell_len(position: u16, level: i32) -> usize
     fields_len(&[Field::Number(position), Field::Level(level)])
 }
 
+// How long fields are, each with a tab before it.
 fn fields_len(fields: &[Field]) -> usize
     requires { sum_by widest fields.now ≤ 28 }
     ensures is { result ≡ length (flat_map tabbed_text fields.now) }

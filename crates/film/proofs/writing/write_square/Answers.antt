@@ -9,5 +9,5 @@ put_line-requires c = room_as c.square_fields.ensures.text (record { room = c.re
 
 pub returns : goal.returns
 returns c =
-    let w : IsWritten (square c.args.column c.args.row) _ c.put_line.new.self = is_written (square c.args.column c.args.row) c.square_fields.ensures.text (omega arith, omega arith) (record { room = c.requires }) c.put_line.ensures in
+    let w : IsWritten (square c.args.column c.args.row) _ c.put_line.new.self = is_written (square c.args.column c.args.row) c.put_line.ensures c.square_fields.ensures.text (omega arith, omega arith) (record { room = c.requires }) in
     record { put = let p = w.put in search rules; back = w.back; found = let p = w.found in search rules }
