@@ -1,5 +1,5 @@
 -- The fields of a line, as they are cut off. Assumes nothing.
-use Rattle.std.proofs.Common.{◌≡◌, ℕ, suc, ◌+◌, ◌<◌, ◌≤◌, true, eqb, List, [], ◌∷◌, ◌++◌, length, take, drop, Err, sym, refl, ap, ◌∙◌, inl, inr, add-one, arith}
+use Rattle.std.proofs.Common.{◌≡◌, ℕ, suc, ◌+◌, ◌<◌, ◌≤◌, Bool, true, eqb, List, [], ◌∷◌, ◌++◌, length, take, drop, Err, sym, refl, ap, ◌∙◌, inl, inr, add-one, arith}
 use Rattle.std.specs.List.{AllByRecursion as All, position}
 use Rattle.std.specs.Option.{unwrap_or}
 use Rattle.std.specs.Prelude.{◌==◌}
@@ -35,6 +35,10 @@ tabs_first xs =
       | inl k ↦ (_, _, tabs_at xs k)
       | inr k ↦ (_, _, tabs_last xs k)
     ]
+
+-- by what `is_empty` answers
+pub nothing_follows : (xs : List ℕ) (r : Bool) → r ≡ eqb (length xs) 0 → r ≡ true → length xs ≡ 0
+nothing_follows xs r e f = eqb-true (length xs) 0 (sym e ∙ f)
 
 -- what a line is, by its first byte: a tab there is no letter
 long_letter : (line : List ℕ) (x y : ℕ) (fs : List (List ℕ)) → by_fields line (onto x (onto y fs)) ≡ Err BadLine

@@ -2,8 +2,9 @@ use Rattle.std.proofs.Common.{◌≡◌, ◌<◌, length, get_or, take, sym, ap,
 use Rattle.std.specs.Char.{digit_value}
 use Rattle.std.proofs.lemmas.List.{take_all}
 use Rattle.std.proofs.lemmas.Int.Digits.{digits_value_more, digits_more}
-use Rattle.std.proofs.lemmas.Bool.{eqb-true, eqb-false}
+use Rattle.std.proofs.lemmas.Bool.{eqb-false}
 use Rattle.film.proofs.Numerals.{writes_some, writes_short, writes_digit, writes_value, writes_first, front_short, writes_back, below_some, below_none}
+use Rattle.film.proofs.Splits.{nothing_follows}
 use Rattle.film.proofs.number.number_below.Goals as goal
 use Rattle.film.proofs.number.number_below.Goals.{then-is_empty-via-then-is_empty, then-is_empty-via-else-is_empty+then-field-gt5, then-field-lt2, else-field-lt2+in_default-1}
 
@@ -12,7 +13,7 @@ returns-then-is_empty-clause-is c =
     below_none c.args.limit c.args.field.now (λ n h e.
     let some = writes_some c.args.field.now n (omega arith) e in
     let short = writes_short c.args.field.now n (omega arith) e in
-    elim c.then-is_empty.branch [ then-is_empty-via-then-is_empty w ↦ omega (arith, eqb-true _ _ (sym c.is_empty.ensures ∙ w.if-is_empty.true)) | then-is_empty-via-else-is_empty+then-field-gt5 w ↦ omega arith ])
+    elim c.then-is_empty.branch [ then-is_empty-via-then-is_empty w ↦ omega (arith, nothing_follows c.args.field.now c.is_empty.result c.is_empty.ensures w.if-is_empty.true) | then-is_empty-via-else-is_empty+then-field-gt5 w ↦ omega arith ])
 
 pub returns-in-48-clause-is : goal.returns-in-48-clause-is
 returns-in-48-clause-is c =
