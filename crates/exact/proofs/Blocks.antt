@@ -1,6 +1,6 @@
 -- Square blocks as lists: reading an entry, and writing one place after another. Assumes nothing.
-use Rattle.std.proofs.Common.{◌≡◌, ℕ, ◌+◌, ◌*◌, ◌/◌, ◌%◌, ◌<◌, ◌≤◌, List, length, get_or, set, ℤ, pos, nat_abs, sym, refl, ap, ◌∙◌, subst, ap₂, ⊎_elim, add-mul, arith}
-use Rattle.std.proofs.lemmas.Nat.{mul-le, mul-add-lt, div-mul-add, mod-mul-add, div_below, mod_below, div-add-mod'}
+use Rattle.std.proofs.Common.{◌≡◌, ℕ, ◌+◌, ◌*◌, ◌/◌, ◌%◌, ◌<◌, ◌≤◌, List, length, get_or, set, ℤ, pos, nat_abs, sym, refl, ap, ◌∙◌, subst, ap₂, ⊎_elim, arith}
+use Rattle.std.proofs.lemmas.Nat.{mul-add-lt, div-mul-add, mod-mul-add, div_below, mod_below, div-add-mod'}
 use Rattle.std.proofs.lemmas.List.FromFn.{get_or-map-range_with_len, length-map-range_with_len, fill_by_all}
 use Rattle.std.proofs.lemmas.List.Edits.{fill_by_more}
 use Rattle.std.proofs.lemmas.List.{get_or_past}
@@ -46,35 +46,10 @@ block_bounded n m P h k = ⊎_elim
     (λ (ge : n * n ≤ k). subst (λ (z : ℤ). nat_abs z ≤ m) (sym (get_or_past (block n P) k (pos 0) (subst (λ i. i ≤ k) (sym (length_block n P)) ge))) (omega arith))
     (cases_lt k (n * n))
 
--- ---- writing a block, row after row
-pub row_none : (n : ℕ) (f : ℕ → ℤ) (xs : List ℤ) → Filled (0 * n) f xs
-row_none n f xs k lt = absurd (omega arith)
-
+-- ---- writing a block, place after place
 -- one place more
 pub filled_more : (f : ℕ → ℤ) (xs : List ℤ) (i : ℕ) (v : ℤ) → i < length xs → v ≡ f i → Filled i f xs → Filled (i + 1) f (set xs i v)
 filled_more f xs i v lt e h = rw e (fill_by_more f xs i (pos 0) lt h)
-
--- one cell more, in row i and column j
-pub filled_cell : (n : ℕ) (P : Matrix) (xs : List ℤ) (i j : ℕ) (v : ℤ) → i < n → j < n → length xs ≡ n * n → v ≡ P i j → Filled (i * n + j) (placed n P) xs → Filled (i * n + (j + 1)) (placed n P) (set xs (i * n + j) v)
-filled_cell n P xs i j v h l e q f =
-    let s : i * n + (j + 1) ≡ i * n + j + 1 = omega arith in
-    let t : i * n + j < length xs = subst (λ m. i * n + j < m) (sym e) (place_below n i j h l) in
-    subst (λ m. Filled m (placed n P) (set xs (i * n + j) v)) (sym s) (filled_more (placed n P) xs (i * n + j) v t (q ∙ sym (placed_at n P i j l)) f)
-
--- a row begins where the row above ends
-pub row_begins : (n : ℕ) (f : ℕ → ℤ) (xs : List ℤ) (i : ℕ) → Filled (i * n) f xs → Filled (i * n + 0) f xs
-row_begins n f xs i h = subst (λ m. Filled m f xs) (omega arith) h
-
-pub row_ends : (n : ℕ) (f : ℕ → ℤ) (xs : List ℤ) (i j : ℕ) → n ≤ j → Filled (i * n + j) f xs → Filled ((i + 1) * n) f xs
-row_ends n f xs i j le h k lt = h k (omega (arith, add-mul i 1 n))
-
--- all rows are written
-pub filled_all : (n : ℕ) (P : Matrix) (xs : List ℤ) (i : ℕ) → length xs ≡ n * n → n ≤ i → Filled (i * n) (placed n P) xs → xs ≡ block n P
-unfolding block
-filled_all n P xs i e le h = fill_by_all (placed n P) xs (n * n) (pos 0) e (λ k lt. h k (omega (arith, more)))
-  where
-    more : n * n ≤ i * n
-    more = mul-le n n i n le (omega arith)
 
 -- each number of one block through f gives another
 pub mapped_all : (n : ℕ) (f : ℤ → ℤ) (ys xs : List ℤ) (m : ℕ) → length xs ≡ n * n → n * n ≤ m → Filled m (λ p. f (get_or ys p (pos 0))) xs → xs ≡ block n (λ i j. f (at n ys i j))
