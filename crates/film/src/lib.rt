@@ -16,7 +16,7 @@ mod tests;
 mod writing;
 
 pub use fault::Fault;
-pub use leaf::{Value, fill_block, read_block};
+pub use leaf::{fill_block, read_block};
 pub use line::Line;
 pub use number::{read_level, read_number};
 pub use reading::{count_lines, read_line};

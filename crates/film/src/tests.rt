@@ -1,6 +1,7 @@
 // Good and bad texts, each with its number; lines written among bytes that stay.
+use crate::leaf::Value;
 use crate::{
-    Fault, Line, Setting, Standard, UnknownStandard, Value, count_lines, fill_block, levels_len,
+    Fault, Line, Setting, Standard, UnknownStandard, count_lines, fill_block, levels_len,
     read_block, read_level, read_line, read_number, samples_len, setting_len, split_len,
     square_len, write_levels, write_samples, write_setting, write_split, write_square,
 };

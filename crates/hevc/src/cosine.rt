@@ -49,6 +49,7 @@ fn entry32(k: usize, n: usize) -> i32
 #[derive(Clone, Copy)]
 struct Product<'a> {
     side: Side,
+    // In which order an entry's two indices are read: no more than a flag, so it is no type.
     turned: bool,
     given: &'a [i32],
     ghost many: { length given.now ≡ side.len * side.len },
