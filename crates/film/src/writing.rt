@@ -1,6 +1,8 @@
 // Writing lines into lent memory. Each writer puts one line at a place and answers the place behind it; what stands
 // before and behind the line stays. The length of each line is known first, so a caller can refuse before it writes; the
-// bounds `few` are there so that lengths can be added.
+// bounds `few` are there so that lengths can be added. Memory and place are lent apart, and not as a cursor of the
+// caller's, so that the clauses speak of the memory alone. The two leaf lines have a loop each: a level has a position
+// and is left out where it is 0, a sample has neither.
 ghost use Rattle.std.specs.Prelude.{◌≡◌, ◌+◌, ◌*◌, ◌≤◌, true, length, flat_map, sum_by};
 ghost use Rattle.transform.specs.Meaning.{shorts};
 ghost use Rattle.film.specs.Fields.{letter_m, letter_q};

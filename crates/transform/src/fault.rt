@@ -18,6 +18,7 @@ pub enum Fault {
 }
 
 impl Fault {
+    // The number by which users know a refusal: told beside the case and never turned back, so it is no conversion.
     pub fn number(&self) -> u8
         ensures { result ≡ number self.now }
     {
