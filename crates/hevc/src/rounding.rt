@@ -62,6 +62,6 @@ impl Rounding for ToLevels {
 
     #[tactic(auto, using(crate::proofs::Terms::level_fits, crate::proofs::Terms::level_back))]
     fn round(&self, sum: i32) -> i32 {
-        nearest(sum as i64, self.divisor as u64) as i32
+        nearest(sum.into(), self.divisor.into()) as i32
     }
 }
