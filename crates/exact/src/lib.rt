@@ -38,6 +38,7 @@ pub fn nearest(y: i64, d: u64) -> i64
     ensures closest { Closest y d result }
     ensures only { (z : ℤ) → Closest y d z → z ≡ result }
 {
+    // The cast is proved to lose nothing; `try_from` would add a case that never comes.
     let magnitude = halves_down(y.unsigned_abs(), d) as i64;
     if y < 0 { -magnitude } else { magnitude }
 }

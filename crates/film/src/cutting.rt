@@ -25,7 +25,8 @@ pub(crate) fn cut<'a>(text: &'a [u8], byte: u8) -> Option<(&'a [u8], &'a [u8])>
     Some((&text[..i], &text[i + 1..]))
 }
 
-// The fields of what follows a letter, one after another.
+// The fields of what follows a letter, one after another. The library's `split` of a slice would do, but for its closure,
+// whose type no struct can name.
 #[derive(Clone, Copy)]
 pub(crate) struct Fields<'a> {
     // What is left: nothing, or a tab before each field.

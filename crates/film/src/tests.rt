@@ -354,7 +354,7 @@ fn settings(rt: HostRuntime) {
     assert!(rt; Setting::new(Standard::Hevc, 22, 256).is_none());
 }
 
-// Three bytes stand before each line, and others behind it.
+// Three bytes stand before each line, and others behind it. Each kind of line has its own call and its own fields.
 fn written_setting(setting: Setting) -> [u8; 24] {
     let mut out = [b'.'; 24];
     if setting_len(setting) <= 21 {

@@ -2,7 +2,8 @@
 // before and behind the line stays. The length of each line is known first, so a caller can refuse before it writes; the
 // bounds `few` are there so that lengths can be added. Memory and place are lent apart, and not as a cursor of the
 // caller's, so that the clauses speak of the memory alone. The two leaf lines have a loop each: a level has a position
-// and is left out where it is 0, a sample has neither.
+// and is left out where it is 0, a sample has neither. Lengths are added in loops: after `map` and `sum` three goals stay
+// open where a loop has its invariant. A position's cast is proved to lose nothing.
 ghost use Rattle.std.specs.Prelude.{◌≡◌, ◌+◌, ◌*◌, ◌≤◌, true, length, flat_map, sum_by};
 ghost use Rattle.transform.specs.Meaning.{shorts};
 ghost use Rattle.film.specs.Fields.{letter_m, letter_q};
@@ -16,6 +17,7 @@ use crate::field::Field;
 use crate::setting::Setting;
 
 // How long the line of a setting is.
+#[tactic(auto, using(crate::proofs::Writes::length_fields))]
 pub fn setting_len(setting: Setting) -> usize
     ensures is { result ≡ length (text_of (of_setting setting)) }
     ensures few { result ≤ 30 }
@@ -36,6 +38,7 @@ pub fn write_setting(setting: Setting, out: &mut [u8], at: usize) -> usize
 }
 
 // How long the line that opens a square is.
+#[tactic(auto, using(crate::proofs::Writes::length_fields))]
 pub fn square_len(column: u16, row: u16) -> usize
     ensures is { result ≡ length (text_of (square column row)) }
     ensures few { result ≤ 30 }
@@ -56,6 +59,7 @@ pub fn write_square(column: u16, row: u16, out: &mut [u8], at: usize) -> usize
 }
 
 // How long the line of a split is.
+#[tactic(auto, using(crate::proofs::Writes::length_fields, crate::proofs::Writes::text_split))]
 pub fn split_len() -> usize
     ensures { result ≡ length (text_of split) }
 {
@@ -135,6 +139,7 @@ pub fn write_samples(samples: &[u8], out: &mut [u8], at: usize) -> usize
 }
 
 // The fields of a setting's line.
+#[tactic(auto, unfolding(crate::specs::Texts::text_of))]
 fn setting_fields(setting: Setting) -> [Field; 3]
     ensures text { text_of (of_setting setting) ≡ line_text letter_m result }
     ensures few { sum_by widest result ≤ 28 }
@@ -147,6 +152,7 @@ fn setting_fields(setting: Setting) -> [Field; 3]
 }
 
 // The fields of the line that opens a square.
+#[tactic(auto, unfolding(crate::specs::Texts::text_of))]
 fn square_fields(column: u16, row: u16) -> [Field; 2]
     ensures text { text_of (square column row) ≡ line_text letter_q result }
     ensures few { sum_by widest result ≤ 28 }
@@ -154,7 +160,7 @@ fn square_fields(column: u16, row: u16) -> [Field; 2]
     [Field::Number(column), Field::Number(row)]
 }
 
-// How long the line of these fields is.
+// How long the line of these fields is. The bound lets lengths be added; a type of few fields would say no more.
 fn line_len(fields: &[Field]) -> usize
     requires { sum_by widest fields.now ≤ 28 }
     ensures is { result ≡ 2 + length (flat_map tabbed_text fields.now) }

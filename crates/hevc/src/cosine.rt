@@ -93,7 +93,8 @@ impl Product<'_> {
         sum
     }
 
-    // The whole product. Its two callers say which matrix, and inlined it need not ask again for each entry.
+    // The whole product, whose length is asked for, as a kernel asks. Its two callers say which matrix, and inlined it need
+    // not ask again for each entry.
     #[inline(always)]
     #[tactic(auto, using(crate::proofs::Places::places))]
     fn write(&self, out: &mut [i32])

@@ -20,7 +20,7 @@ pub(crate) trait Factor {
     fn side(&self) -> Side
         ensures { result.len ≡ len self.now };
 
-    // The matrix times a block.
+    // The matrix times a block. Lengths are asked for, as a kernel asks.
     fn multiply(&self, given: &[i32], out: &mut [i32])
         requires len { (length given.now ≡ len self.now * len self.now) × (length out.old ≡ len self.now * len self.now) }
         requires small { Bounded (limit self.now) given.now }

@@ -8,8 +8,9 @@ use crate::side::Side;
 
 // Nothing here scales, clips or rounds: that is written once, above every kernel. Entries are at most 90 in magnitude, so
 // that products of legal blocks fit 32 bits at every side. Blocks are slices whose length is asked for: a method with a const
-// parameter for the length of an array gets no proof. Side, block and room for the product are three parameters: with a
-// struct that holds the `&mut` each clause would have to say as well that it is still the same memory.
+// parameter for the length of an array gets no proof, and with the parameter on the trait `Hevc` would owe a bound for
+// each of four areas. Side, block and room for the product are three parameters: with a struct that holds the `&mut`
+// each clause would have to say as well that it is still the same memory.
 pub trait Kernel {
     ghost served: { Self → ℕ → Bool };
 

@@ -62,6 +62,7 @@ impl Rounding for ToLevels {
 
     #[tactic(auto, using(crate::proofs::Terms::level_fits, crate::proofs::Terms::level_back))]
     fn round(&self, sum: i32) -> i32 {
+        // A level fits again: the cast is proved to lose nothing.
         nearest(sum.into(), self.divisor.into()) as i32
     }
 }

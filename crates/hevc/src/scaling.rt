@@ -1,4 +1,5 @@
-// Levels scaled to coefficients, and the rounding back to levels.
+// Levels scaled to coefficients, and the rounding back to levels. A cast here is proved to lose nothing; `try_from` would
+// add a case that never comes.
 ghost use Rattle.std.specs.Prelude.{◌≡◌, ◌*◌, ◌≤◌, map, unsigned_abs};
 ghost use Rattle.exact.specs.Sums.{Bounded};
 ghost use Rattle.hevc.specs.Scaling.{scale, log2, coefficient};

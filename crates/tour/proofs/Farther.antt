@@ -1,12 +1,9 @@
 -- One more place seen. Assumes nothing.
-use Rattle.std.proofs.Common.{◌≡◌, ℕ, ◌+◌, ◌≤◌, max, ◌⊎◌, List, ℤ, inl, inr, ⊎_elim, refl, arith, below_more}
+use Rattle.std.proofs.Common.{◌≡◌, ℕ, ◌+◌, ◌≤◌, max, ◌⊎◌, List, ℤ, inl, inr, ⊎_elim, arith, below_more}
 use Rattle.tour.specs.Distances.{apart, Greatest}
 
 larger : (a r : ℕ) → (max a r ≡ a) ⊎ (max a r ≡ r)
 larger a r = grind arith
-
-pub none_seen : (xs ys : List ℤ) → Greatest 0 xs ys 0
-none_seen xs ys = record { most = λ k h. absurd (omega arith); met = inl refl }
 
 pub one_more : (n : ℕ) (xs ys : List ℤ) (r : ℕ) → Greatest n xs ys r → Greatest (n + 1) xs ys (max (apart xs ys n) r)
 one_more n xs ys r g =

@@ -42,9 +42,7 @@ fn at_step(step: u32) -> Mode
 // The edge's rows, one after the other.
 fn edge() -> [i32; 64] {
     let mut block = [0; 64];
-    for (place, x) in block.iter_mut().zip(EDGE.iter().flatten()) {
-        *place = *x;
-    }
+    block.copy_from_slice(EDGE.as_flattened());
     block
 }
 

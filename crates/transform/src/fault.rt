@@ -13,7 +13,7 @@ pub enum Fault {
     NotUsable,
     // A residual outside -255 to 255, or a level outside 16 bits.
     OutOfRange,
-    // The levels rebuild to nothing that the standard allows.
+    // The levels rebuild to nothing that the standard allows. The number is the one that was asked for, so it is no enum.
     NothingRebuilt { standard: u32, side: usize },
 }
 

@@ -53,9 +53,6 @@ module _ (y : ℤ) (d : ℕ) (p : 0 < d) (r : ℤ) (e : r ≡ nearest y d) where
   is_only : (z : ℤ) → Closest y d z → z ≡ r
   is_only z h = nearest_only y d p z h ∙ sym e
 
-pub overflow_cast-magnitude : goal.overflow_cast-magnitude
-overflow_cast-magnitude c = fits c.args.y c.args.d _ _ c.ranges.y c.unsigned_abs.ensures.value c.halves_down-magnitude.ensures c.requires.divisor.0 c.requires.dividend
-
 pub returns-then-y-lt0 : goal.returns-then-y-lt0
 returns-then-y-lt0 c =
     let e = down_is c.args.y c.args.d _ _ c.ranges.y c.unsigned_abs.ensures.value c.halves_down-magnitude.ensures c.requires.divisor.0 c.requires.dividend c.if-y-lt0.true in

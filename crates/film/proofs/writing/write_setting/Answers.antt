@@ -1,12 +1,8 @@
 use Rattle.std.proofs.Common.{arith, rules}
 use Rattle.film.specs.Texts.{of_setting}
-use Rattle.film.proofs.Writes.{room_as}
 use Rattle.film.proofs.Trips.{name_plain}
 use Rattle.film.proofs.Written.{IsWritten, is_written}
 use Rattle.film.proofs.writing.write_setting.Goals as goal
-
-pub put_line-requires : goal.put_line-requires
-put_line-requires c = room_as c.setting_fields.ensures.text (record { room = c.requires })
 
 pub returns : goal.returns
 returns c =

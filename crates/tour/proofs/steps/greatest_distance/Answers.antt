@@ -1,12 +1,9 @@
-use Rattle.std.proofs.Common.{◌≡◌, ◌∙◌, ◌-ℤ◌, nat_abs, length, length-append, pos, ap₂, subst, rules}
+use Rattle.std.proofs.Common.{◌≡◌, ◌∙◌, ◌-ℤ◌, nat_abs, length, length-append, pos, ap₂, rules}
 use Rattle.std.proofs.lemmas.Int.{to_z-of_z}
-use Rattle.std.proofs.lemmas.Slice.Zip.{zip_turn, zip_end}
-use Rattle.tour.specs.Distances.{apart, Greatest}
-use Rattle.tour.proofs.Farther.{none_seen, one_more}
+use Rattle.std.proofs.lemmas.Slice.Zip.{zip_turn}
+use Rattle.tour.specs.Distances.{apart}
+use Rattle.tour.proofs.Farther.{one_more}
 use Rattle.tour.proofs.steps.greatest_distance.Goals as goal
-
-pub loop-x-init : goal.loop-x-init
-loop-x-init c = none_seen c.args.a.now c.args.b.now
 
 pub loop-x-preserved : goal.loop-x-preserved
 loop-x-preserved c =
@@ -14,9 +11,3 @@ loop-x-preserved c =
     let d : c.abs_diff.result ≡ nat_abs (c.in-Some.x.now -ℤ c.in-Some.y.now) = search (rules, to_z-of_z, c.abs_diff.ensures) in
     let a : nat_abs (c.in-Some.x.now -ℤ c.in-Some.y.now) ≡ apart c.args.a.now c.args.b.now (length c.loop-x.yielded) = ap₂ (λ x y. nat_abs (x -ℤ y)) (t.2 (pos 0)) (t.3 (pos 0)) in
     rw (length-append c.loop-x.yielded _, c.max-greatest.ensures, d ∙ a) (one_more _ _ _ _ c.loop-x.invariant)
-
-pub returns : goal.returns
-returns c =
-    subst (λ n. Greatest n c.args.a.now c.args.b.now c.loop-x.greatest)
-    (zip_end c.args.a.now c.args.b.now c.loop-x.yielded c.into_iter-x-iterator.result c.loop-x.x-iterator c.next.new.self c.next.result (cc) (cc) c.loop-x.yielded_by c.in-None.is c.next.ensures.steps)
-    c.loop-x.invariant

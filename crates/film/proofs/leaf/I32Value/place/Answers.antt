@@ -6,6 +6,7 @@ use Rattle.film.specs.Leaves.{pair_reads}
 use Rattle.film.proofs.Pairs.{one_placed}
 use Rattle.film.proofs.leaf.I32Value.place.Goals as goal
 
+-- the search finds this alone too, but near its limit
 pub loop-pair-preserved : goal.loop-pair-preserved
 loop-pair-preserved c =
     let i = c.in_ok-position in
