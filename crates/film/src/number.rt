@@ -48,7 +48,8 @@ fn unless_zero(level: i32) -> Option<i32>
     if level == 0 { None } else { Some(level) }
 }
 
-// The position that a field writes, from `from` on and below `count`.
+// The position that a field writes, from `from` on and below `count`: two numbers and no range, since the one changes from
+// pair to pair and the other does not.
 pub(crate) fn read_position(field: &[u8], from: usize, count: usize) -> Result<usize, Fault>
     ensures is { result ≡ or_bad_field (position_in from count field.now) }
     ensures within { IfOk result (λ p. p < count) }

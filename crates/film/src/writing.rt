@@ -3,7 +3,8 @@
 // bounds `few` are there so that lengths can be added. Memory and place are lent apart, and not as a cursor of the
 // caller's, so that the clauses speak of the memory alone. The two leaf lines have a loop each: a level has a position
 // and is left out where it is 0, a sample has neither. Lengths are added in loops: after `map` and `sum` three goals stay
-// open where a loop has its invariant. A position's cast is proved to lose nothing.
+// open where a loop has its invariant. A position's cast is proved to lose nothing, since a block is asked to have at most
+// 65,536 places; a type for such a block would be asked of every caller.
 ghost use Rattle.std.specs.Prelude.{◌≡◌, ◌+◌, ◌*◌, ◌≤◌, true, length, flat_map, sum_by};
 ghost use Rattle.transform.specs.Meaning.{shorts};
 ghost use Rattle.film.specs.Fields.{letter_m, letter_q};

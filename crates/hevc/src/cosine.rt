@@ -57,7 +57,8 @@ struct Product<'a> {
 }
 
 impl Product<'_> {
-    // Row i, column j of the matrix.
+    // Row i, column j of the matrix. A row and a column are two parameters with their bounds, as in the definitions: a pair
+    // that holds the bounds would be made anew for each entry and each term.
     fn entry(&self, i: usize, j: usize) -> i32
         requires { (i < self.now.side.len) × (j < self.now.side.len) }
         ensures { result ≡ turned_if self.now.turned (cosine self.now.side.len) i j }

@@ -13,6 +13,7 @@ pub(crate) fn pass<F: Factor, R: Rounding>(factor: &F, rounding: &R, cells: &mut
     requires small { Bounded (F.limit factor.now) cells.old }
     ensures { cells.new ≡ passed (R.rounded rounding.now) (F.factor factor.now) (F.len factor.now) cells.old }
 {
+    // Nothing is allocated, and an array's size is a constant: so the side chooses among four.
     match factor.side().len {
         4 => pass_by::<F, R, 16>(factor, rounding, cells),
         8 => pass_by::<F, R, 64>(factor, rounding, cells),

@@ -29,7 +29,7 @@ fn are_within(xs: &[i32], low: i32, high: i32) -> bool
     true
 }
 
-// The limits of the two kinds of values; one function goes over either.
+// Each is named after a definition, and its contract ties it to that; the walk over the values is one.
 pub(crate) fn are_residuals(xs: &[i32]) -> bool
     ensures { result ≡ residuals xs.now }
 {
