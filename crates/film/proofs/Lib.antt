@@ -2,6 +2,7 @@ pub mod Places
 pub mod Splits
 pub mod Wholes
 pub mod Numerals
+pub mod Digits
 pub mod Pairs
 pub mod Samples
 pub mod Trips

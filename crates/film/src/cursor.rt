@@ -1,11 +1,12 @@
 // Lent memory, and the place in it at which the next byte is written.
-ghost use Rattle.std.specs.Prelude.{[], ◌∷◌, flat_map};
+ghost use Rattle.std.specs.Prelude.{[], ◌∷◌, flat_map, decimal};
+ghost use Rattle.std.specs.Fmt.{signed_decimal};
 ghost use Rattle.film.specs.Texts.{cell_text};
 ghost use Rattle.film.specs.Writing.{tabbed_text, line_text, HasRoom, Puts};
 
 use crate::cutting::{NEWLINE, TAB};
-use crate::field::Field;
-use itoa::Buffer;
+use crate::field::{Field, digits};
+use itoa::write_digits;
 
 #[derive(Drop)]
 pub(crate) struct Cursor<'a> {
@@ -39,7 +40,34 @@ impl Cursor<'_> {
         ensures { Puts (tabbed_text field) self.old self.new }
     {
         self.put(TAB);
-        self.put_bytes(field.text(&mut Buffer::new()));
+        match field {
+            Field::Name(standard) => self.put_bytes(standard.name()),
+            Field::Number(number) => self.put_digits(number.into()),
+            Field::Level(level) => self.put_level(level),
+        }
+    }
+
+    // The digits of a level, with a minus before them where it is negative.
+    fn put_level(&mut self, level: i32)
+        requires { HasRoom (signed_decimal level) self.old }
+        ensures { Puts (signed_decimal level) self.old self.new }
+    {
+        if level < 0 {
+            self.put(b'-');
+            self.put_digits(level.unsigned_abs());
+        } else {
+            self.put_digits(level.unsigned_abs());
+        }
+    }
+
+    // The digits of a number, written where they end.
+    fn put_digits(&mut self, n: u32)
+        requires { HasRoom (decimal n) self.old }
+        ensures { Puts (decimal n) self.old self.new }
+    {
+        let end = self.at + digits(n);
+        write_digits(n.into(), self.out, end);
+        self.at = end;
     }
 
     // Fields, each with a tab before it.

@@ -1,9 +1,8 @@
 // The fields of lines that are written.
-ghost use Rattle.std.specs.Prelude.{◌≡◌, ◌+◌, ◌≤◌, length};
-ghost use Rattle.film.specs.Writing.{field_text, tabbed_text, widest};
+ghost use Rattle.std.specs.Prelude.{◌≡◌, ◌+◌, ◌<◌, ◌≤◌, length, decimal};
+ghost use Rattle.film.specs.Writing.{tabbed_text, widest};
 
 use crate::standard::Standard;
-use itoa::Buffer;
 
 #[derive(Clone, Copy)]
 pub(crate) enum Field {
@@ -13,23 +12,26 @@ pub(crate) enum Field {
 }
 
 impl Field {
-    // Its text; a number's digits stand in the buffer.
-    pub(crate) fn text<'a>(self, digits: &'a mut Buffer) -> &'a [u8]
-        ensures is { result.now ≡ field_text self }
-        ensures few { length result.now + 1 ≤ widest self }
-    {
-        match self {
-            Field::Name(standard) => standard.name(),
-            Field::Number(number) => digits.format(number).as_bytes(),
-            Field::Level(level) => digits.format(level).as_bytes(),
-        }
-    }
-
     // How long it is with the tab before it.
     pub(crate) fn len(self) -> usize
         ensures is { result ≡ length (tabbed_text self) }
         ensures few { result ≤ widest self }
     {
-        1 + self.text(&mut Buffer::new()).len()
+        match self {
+            Field::Name(standard) => 1 + standard.name().len(),
+            Field::Number(number) => 1 + digits(number.into()),
+            Field::Level(level) if level < 0 => 2 + digits(level.unsigned_abs()),
+            Field::Level(level) => 1 + digits(level.unsigned_abs()),
+        }
     }
+}
+
+// How many digits a number has.
+#[tactic(auto, using(crate::proofs::Digits::digits_log, crate::proofs::Digits::digits_few, crate::proofs::Digits::digits_short))]
+pub(crate) fn digits(n: u32) -> usize
+    ensures is { result ≡ length (decimal n) }
+    ensures few { result ≤ 10 }
+    ensures short { n < 65536 → result ≤ 5 }
+{
+    n.max(1).ilog10() as usize + 1
 }
