@@ -1,6 +1,7 @@
 -- The fields of a line, as they are cut off. Assumes nothing.
-use Rattle.std.proofs.Common.{◌≡◌, ℕ, suc, ◌+◌, ◌<◌, ◌≤◌, Bool, true, eqb, List, [], ◌∷◌, ◌++◌, length, take, drop, Err, sym, refl, ap, ◌∙◌, inl, inr, add-one, arith}
-use Rattle.std.specs.List.{AllByRecursion as All, position}
+use Rattle.std.proofs.Common.{◌≡◌, ℕ, suc, ◌+◌, ◌<◌, ◌≤◌, Bool, true, cond, eqb, List, [], ◌∷◌, ◌++◌, length, take, drop, Err, sym, refl, ap, ◌∙◌, inl, inr, add-one, arith}
+use Rattle.std.specs.List.{AllByRecursion as All, position, count_by}
+use Rattle.std.proofs.lemmas.List.Sums.{sum_by-cons}
 use Rattle.std.specs.Option.{unwrap_or}
 use Rattle.std.specs.Prelude.{◌==◌}
 use Rattle.std.proofs.lemmas.List.{drop_more, drop_all, take_all, append_assoc, append-nil}
@@ -79,17 +80,35 @@ next_is xs p e =
 pub next_fields : (tail rest : List ℕ) (x : ℕ) (p : ℕ) → tail ≡ x ∷ rest → p ≡ unwrap_or (position (λ x. x == 9) rest) (length rest) → fields tail ≡ take p rest ∷ fields (drop p rest)
 next_fields tail rest x p e h = ap fields e ∙ next_is rest p (h ∙ sym (place_found 9 rest))
 
--- no more fields than bytes
-length-onto : (x : ℕ) (fs : List (List ℕ)) → length (onto x fs) ≤ 1 + length fs
-length-onto x [] = omega arith
-length-onto x (f ∷ fs) = omega arith
+-- how many fields: one more with each tab
+length-onto : (x : ℕ) (fs : List (List ℕ)) → 0 < length fs → length (onto x fs) ≡ length fs
+length-onto x [] h = absurd (omega arith)
+length-onto x (f ∷ fs) h = refl
 
+tabs_many : (xs : List ℕ) → 0 < length (at_tabs xs)
+tabs_many xs = let p = tabs_first xs in omega (arith, ap length p.2)
+
+tabs_step : (x : ℕ) (xs : List ℕ) → length (at_tabs (x ∷ xs)) ≡ cond (eqb x 9) 1 0 + length (at_tabs xs)
+tabs_step x xs =
+    elim (cases_Bool (eqb x 9)) [
+      | inl e ↦ rw e (omega arith)
+      | inr e ↦ rw e (omega (arith, length-onto x (at_tabs xs) (tabs_many xs)))
+    ]
+
+tabs_counted : (xs : List ℕ) → length (at_tabs xs) ≡ 1 + count_by (λ x. x == 9) xs
+tabs_counted [] = refl
+tabs_counted (x ∷ xs) = omega (arith, tabs_step x xs, tabs_counted xs, sum_by-cons (λ x. cond (x == 9) 1 0) x xs)
+
+pub fields_counted : (tail rest : List ℕ) (x n : ℕ) → tail ≡ x ∷ rest → n ≡ count_by (λ x. x == 9) rest → 1 + n ≡ length (fields tail)
+fields_counted tail rest x n e h = rw e (omega (arith, h, tabs_counted rest))
+
+-- no more fields than bytes
 tabs_no_longer : (xs : List ℕ) → length (at_tabs xs) ≤ 1 + length xs
 tabs_no_longer [] = omega arith
 tabs_no_longer (x ∷ xs) =
     elim (cases_Bool (eqb x 9)) [
       | inl e ↦ rw e (omega (arith, tabs_no_longer xs))
-      | inr e ↦ rw e (omega (arith, length-onto x (at_tabs xs), tabs_no_longer xs))
+      | inr e ↦ rw e (omega (arith, length-onto x (at_tabs xs) (tabs_many xs), tabs_no_longer xs))
     ]
 
 pub fields_no_longer : (tail : List ℕ) → length (fields tail) ≤ length tail

@@ -1,5 +1,5 @@
 // Cutting a text into lines and fields.
-ghost use Rattle.std.specs.Prelude.{◌≡◌, ◌==◌, ◌<◌, ◌^◌, true, false, length, MatchResult};
+ghost use Rattle.std.specs.Prelude.{◌≡◌, ◌==◌, ◌<◌, ◌^◌, true, false, length, count_by, MatchResult};
 ghost use Rattle.std.specs.List.{position};
 ghost use Rattle.film.specs.Fields.{cut_at, cut_seen, begun, fields};
 
@@ -25,6 +25,13 @@ pub(crate) fn cut<'a>(text: &'a [u8], byte: u8) -> Option<(&'a [u8], &'a [u8])>
     Some((&text[..i], &text[i + 1..]))
 }
 
+// How many tabs a text has.
+fn count_tabs(text: &[u8]) -> usize
+    ensures { result ≡ count_by (λ x. x == 9) text.now }
+{
+    text.iter().filter(|byte| **byte == TAB).count()
+}
+
 // The fields of what follows a letter, one after another. The library's `split` of a slice would do, but for its closure,
 // whose type no struct can name.
 #[derive(Clone, Copy)]
@@ -48,11 +55,14 @@ impl<'a> Fields<'a> {
         }
     }
 
-    // How many are left.
+    // How many are left: one more with each tab behind the first byte. So they are counted without being cut.
     pub(crate) fn len(&self) -> usize
         ensures { result ≡ length (fields self.now.rest.now) }
     {
-        (*self).count()
+        match self.rest.split_first() {
+            None => 0,
+            Some((_, text)) => 1 + count_tabs(text),
+        }
     }
 }
 
