@@ -25,11 +25,16 @@ pub(crate) fn cut<'a>(text: &'a [u8], byte: u8) -> Option<(&'a [u8], &'a [u8])>
     Some((&text[..i], &text[i + 1..]))
 }
 
-// How many tabs a text has.
+// How many tabs a text has, by a loop that the compiler turns into steps of many bytes: `filter` and `count` go byte by
+// byte.
 fn count_tabs(text: &[u8]) -> usize
     ensures { result ≡ count_by (λ x. x == 9) text.now }
 {
-    text.iter().filter(|byte| **byte == TAB).count()
+    let mut count = 0;
+    for byte in text {
+        count += usize::from(*byte == TAB);
+    }
+    count
 }
 
 // The fields of what follows a letter, one after another. The library's `split` of a slice would do, but for its closure,

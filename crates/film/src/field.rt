@@ -26,12 +26,12 @@ impl Field {
     }
 }
 
-// How many digits a number has.
-#[tactic(auto, using(crate::proofs::Digits::digits_log, crate::proofs::Digits::digits_few, crate::proofs::Digits::digits_short))]
+// How many digits a number has. A logarithm to base ten says it too, but for the short numbers of a film its steps take
+// longer than these.
 pub(crate) fn digits(n: u32) -> usize
     ensures is { result ≡ length (decimal n) }
     ensures few { result ≤ 10 }
     ensures short { n < 65536 → result ≤ 5 }
 {
-    n.max(1).ilog10() as usize + 1
+    if n < 10 { 1 } else { 1 + digits(n / 10) }
 }

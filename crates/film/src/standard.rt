@@ -67,10 +67,12 @@ impl TryFrom<&[u8]> for Standard {
     ghost try_from_gives = { λ name r. result_ok r ≡ named name.now };
 
     fn try_from(name: &[u8]) -> Result<Standard, UnknownStandard> {
-        [Standard::Hevc, Standard::H264, Standard::Vc1]
-            .into_iter()
-            .find(|standard| standard.name() == name)
-            .ok_or(UnknownStandard)
+        match name {
+            name if name == Standard::Hevc.name() => Ok(Standard::Hevc),
+            name if name == Standard::H264.name() => Ok(Standard::H264),
+            name if name == Standard::Vc1.name() => Ok(Standard::Vc1),
+            _ => Err(UnknownStandard),
+        }
     }
 }
 
