@@ -13,7 +13,12 @@ pub(crate) const NEWLINE: u8 = 10;
 fn find(text: &[u8], byte: u8) -> Option<usize>
     ensures { result ≡ position (λ x. x == byte) text.now }
 {
-    text.iter().position(|b| *b == byte)
+    for (i, x) in text.iter().enumerate() {
+        if *x == byte {
+            return Some(i);
+        }
+    }
+    None
 }
 
 // What stands before the first `byte`, and what after it.
