@@ -153,6 +153,8 @@ impl<'a> Iterator for Pairs<'a> {
 
     ghost remaining = { item_count (λ s. pair_reads s.from s.count (fields s.fields.rest.now)) };
 
+    // Inlined, a pair need not go through memory on its way into the block.
+    #[inline(always)]
     #[tactic(auto, using(crate::proofs::Pairs::reads_step))]
     fn next(&mut self) -> Option<Result<(usize, i32), Fault>> {
         let position = self.fields.next()?;
