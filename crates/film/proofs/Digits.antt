@@ -7,11 +7,11 @@ use Rattle.std.proofs.lemmas.Fmt.{length-decimal-le, decimal_digit, decimal_step
 use Rattle.std.proofs.lemmas.Int.{to_z-of_z}
 use Rattle.std.proofs.lemmas.List.{length-append}
 
-pub one_digit : (n : ℕ) → n < 10 → 1 ≡ length (decimal n)
-one_digit n h = sym (ap length (decimal_digit n h))
+pub len_digit : (n : ℕ) → n < 10 → length (decimal n) ≡ 1
+len_digit n h = ap length (decimal_digit n h)
 
-pub more_digits : (n r : ℕ) → 10 ≤ n → n < 2 ^ 64 → r ≡ length (decimal (n / 10)) → 1 + r ≡ length (decimal n)
-more_digits n r h k e = omega (arith, e, ap length (decimal_step n h k) ∙ length-append (decimal (n / 10)) _)
+pub len_step : (n : ℕ) → 10 ≤ n → n < 2 ^ 64 → length (decimal n) ≡ length (decimal (n / 10)) + 1
+len_step n h k = ap length (decimal_step n h k) ∙ length-append (decimal (n / 10)) _
 
 pub digits_few : (n r : ℕ) → n < 2 ^ 32 → r ≡ length (decimal n) → r ≤ 10
 digits_few n r h e = omega (arith, e, length-decimal-le 10 n (omega arith) (omega arith) (omega arith))

@@ -19,7 +19,7 @@ pub passed_is : (N : ℕ) (f : ℤ → ℤ) (P : Matrix) (xs sums ys : List ℤ)
 passed_is N f P xs sums ys a b = b ∙ ap (λ zs. block N (turned_by f N zs)) a
 
 -- a pass over the block of Q
-passed_block : (N : ℕ) (f : ℤ → ℤ) (P Q : Matrix) → passed f P N (block N Q) ≡ block N (λ i j. f (product N P Q j i))
+pub passed_block : (N : ℕ) (f : ℤ → ℤ) (P Q : Matrix) → passed f P N (block N Q) ≡ block N (λ i j. f (product N P Q j i))
 passed_block N f P Q = block_ext N _ _
     (λ i j h l. ap f (at_block N (product N P (at N (block N Q))) j i l h
     ∙ product_ext N P (at N (block N Q)) P Q j i (λ _ _. refl) (λ k lt. at_block N Q k i lt h)))
@@ -31,17 +31,20 @@ after_columns z = clip16 (floor_shift (z +ℤ pos 64) 7)
 abbrev pub after_rows : ℤ → ℤ
 after_rows z = floor_shift (z +ℤ pos 2048) 12
 
+-- the two passes of rebuilding, over a block of coefficients
+pub rebuilt_block : (A : Matrix) (N q : ℕ) (xs : List ℤ) → passed after_rows (transposed A) N (passed after_columns (transposed A) N (block N (coefficients N q (at N xs)))) ≡ rebuilt_by A N q xs
+unfolding rebuilt_by
+rebuilt_block A N q xs =
+    let C = coefficients N q (at N xs) in
+    ap (passed after_rows (transposed A) N) (passed_block N after_columns (transposed A) C)
+    ∙ passed_block N after_rows (transposed A) (transposed (columns N A C))
+
 module _ (A : Matrix) (N q : ℕ) (xs : List ℤ) (many : length xs ≡ N * N) where
   pub scaled_is : map (coefficient (log2 N) (scale q)) xs ≡ block N (coefficients N q (at N xs))
   scaled_is = map_block N (coefficient (log2 N) (scale q)) xs many
 
   pub rebuilt_is : passed after_rows (transposed A) N (passed after_columns (transposed A) N (map (coefficient (log2 N) (scale q)) xs)) ≡ rebuilt_by A N q xs
-  unfolding rebuilt_by
-  rebuilt_is =
-      let C = coefficients N q (at N xs) in
-      ap (λ ys. passed after_rows (transposed A) N (passed after_columns (transposed A) N ys)) scaled_is
-      ∙ ap (passed after_rows (transposed A) N) (passed_block N after_columns (transposed A) C)
-      ∙ passed_block N after_rows (transposed A) (transposed (columns N A C))
+  rebuilt_is = ap (λ ys. passed after_rows (transposed A) N (passed after_columns (transposed A) N ys)) scaled_is ∙ rebuilt_block A N q xs
 
   pub chosen_is : (divisor : ℕ) → divisor ≡ 64 * N * scale q → passed (λ z. nearest z divisor) A N (passed (λ z. z) A N xs) ≡ chosen_by A N q xs
   unfolding chosen_by
@@ -61,20 +64,27 @@ pub sums_bounded : (N m n : ℕ) (P : Matrix) (xs ys : List ℤ) → N ≤ 32 �
 sums_bounded N m n P xs ys le lt h b e = bounded_along n n _ ys (omega arith) e (block_bounded N n (product N P (at N xs))
     (λ i j _ _. omega (arith, product_abs N P (at N xs) i j 90 m (λ k _. h i k) (λ k _. b (k * N + j)), mul-le N (90 * m) 32 (90 * m) le (omega arith))))
 
--- the same after a pass that rounds nothing
+-- a block turned as it is, and so the sums of a pass that rounds nothing
+pub turned_bounded : (N m : ℕ) (xs ys : List ℤ) → Bounded m xs → ys ≡ block N (turned_by (λ z. z) N xs) → Bounded m ys
+turned_bounded N m xs ys b e = bounded_along m m _ ys (omega arith) e (block_bounded N m (turned_by (λ z. z) N xs) (λ i j _ _. b (j * N + i)))
+
 pub unrounded_bounded : (N m n : ℕ) (P : Matrix) (xs ys : List ℤ) → N ≤ 32 → 32 * (90 * m) ≤ n → ((i j : ℕ) → nat_abs (P i j) ≤ 90) → Bounded m xs → ys ≡ passed (λ z. z) P N xs → Bounded n ys
-unrounded_bounded N m n P xs ys le lt h b e =
-    bounded_along n n _ ys (omega arith) e (block_bounded N n _ (λ i j _ _. sums_bounded N m n P xs _ le lt h b refl (j * N + i)))
+unrounded_bounded N m n P xs ys le lt h b e = turned_bounded N n (block N (product N P (at N xs))) ys (sums_bounded N m n P xs _ le lt h b refl) e
 
--- after a pass that clips, and where levels are scaled, all fits 16 bits
-pub clipped_bounded : (N : ℕ) (P : Matrix) (xs ys : List ℤ) → ys ≡ passed after_columns P N xs → Bounded 32768 ys
-clipped_bounded N P xs ys e =
-    bounded_along 32768 32768 _ ys (omega arith) e (block_bounded N 32768 _ (λ i j _ _. clip_abs (floor_shift (at N (block N (product N P (at N xs))) j i +ℤ pos 64) 7)))
+-- what is clipped fits 16 bits, after a pass too
+pub clipped_bounded : (N : ℕ) (xs ys : List ℤ) → ys ≡ block N (turned_by after_columns N xs) → Bounded 32768 ys
+clipped_bounded N xs ys e = bounded_along 32768 32768 _ ys (omega arith) e (block_bounded N 32768 (turned_by after_columns N xs) (λ i j _ _. clip_abs (floor_shift (at N xs j i +ℤ pos 64) 7)))
 
-pub coefficients_bounded : (N q : ℕ) (xs ys : List ℤ) → length xs ≡ N * N → ys ≡ map (coefficient (log2 N) (scale q)) xs → Bounded 32768 ys
+pub pass_bounded : (N : ℕ) (P : Matrix) (xs ys : List ℤ) → ys ≡ passed after_columns P N xs → Bounded 32768 ys
+pass_bounded N P xs ys e = clipped_bounded N (block N (product N P (at N xs))) ys e
+
+-- coefficients too, where the levels of a block are scaled
+pub coefficients_bounded : (N q : ℕ) (levels : Matrix) (ys : List ℤ) → ys ≡ block N (coefficients N q levels) → Bounded 32768 ys
 unfolding coefficient
-coefficients_bounded N q xs ys many e =
-    bounded_along 32768 32768 _ ys (omega arith) (e ∙ map_block N _ xs many) (block_bounded N 32768 (coefficients N q (at N xs)) (λ i j _ _. clip_abs (floor_shift (at N xs i j *ℤ pos (16 * scale q) +ℤ pos (2 ^ (log2 N + 2))) (log2 N + 3))))
+coefficients_bounded N q levels ys e = bounded_along 32768 32768 _ ys (omega arith) e (block_bounded N 32768 (coefficients N q levels) (λ i j _ _. clip_abs (floor_shift (levels i j *ℤ pos (16 * scale q) +ℤ pos (2 ^ (log2 N + 2))) (log2 N + 3))))
+
+pub scaled_bounded : (N q : ℕ) (xs ys : List ℤ) → length xs ≡ N * N → ys ≡ map (coefficient (log2 N) (scale q)) xs → Bounded 32768 ys
+scaled_bounded N q xs ys many e = coefficients_bounded N q (at N xs) ys (e ∙ map_block N _ xs many)
 
 -- what a way through a block, in two passes, needs
-pub ruleset ways = (shape_parts, residuals_bounded, shorts_bounded, bounded_along, clipped_bounded, coefficients_bounded)
+pub ruleset ways = (shape_parts, residuals_bounded, shorts_bounded, bounded_along, pass_bounded, scaled_bounded)
