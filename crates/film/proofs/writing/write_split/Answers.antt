@@ -1,5 +1,6 @@
-use Rattle.std.proofs.Common.{length, ap, arith, rules}
+use Rattle.std.proofs.Common.{[], length, ap, arith, rules}
 use Rattle.film.specs.Texts.{split}
+use Rattle.film.specs.Writing.{line_text, Puts}
 use Rattle.film.proofs.Writes.{text_split}
 use Rattle.film.proofs.Written.{IsWritten, is_written}
 use Rattle.film.proofs.writing.write_split.Goals as goal
@@ -9,5 +10,6 @@ put_line-requires c = record { room = omega (arith, ap length text_split, c.requ
 
 pub returns : goal.returns
 returns c =
-    let w : IsWritten split _ c.put_line.new.self = is_written split c.put_line.ensures text_split tt (record { room = c.requires }) in
+    let p : Puts (line_text 83 []) _ c.put_line.new.self = c.put_line.ensures in
+    let w : IsWritten split _ c.put_line.new.self = is_written split p text_split tt (record { room = c.requires }) in
     record { put = let p = w.put in search rules; back = w.back; found = let p = w.found in search rules }
