@@ -1,5 +1,5 @@
 // The fields of lines that are written.
-ghost use Rattle.std.specs.Prelude.{◌≡◌, ◌+◌, ◌<◌, ◌≤◌, length, decimal};
+ghost use Rattle.std.specs.Prelude.{◌≡◌, ◌<◌, ◌≤◌, length, decimal};
 ghost use Rattle.film.specs.Writing.{tabbed_text, widest};
 
 use crate::standard::Standard;

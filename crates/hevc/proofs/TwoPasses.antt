@@ -32,9 +32,9 @@ abbrev pub after_rows : ℤ → ℤ
 after_rows z = floor_shift (z +ℤ pos 2048) 12
 
 -- the two passes of rebuilding, over a block of coefficients
-pub rebuilt_block : (A : Matrix) (N q : ℕ) (xs : List ℤ) → passed after_rows (transposed A) N (passed after_columns (transposed A) N (block N (coefficients N q (at N xs)))) ≡ rebuilt_by A N q xs
+pub rebuilt_passes : (A : Matrix) (N q : ℕ) (xs : List ℤ) → passed after_rows (transposed A) N (passed after_columns (transposed A) N (block N (coefficients N q (at N xs)))) ≡ rebuilt_by A N q xs
 unfolding rebuilt_by
-rebuilt_block A N q xs =
+rebuilt_passes A N q xs =
     let C = coefficients N q (at N xs) in
     ap (passed after_rows (transposed A) N) (passed_block N after_columns (transposed A) C)
     ∙ passed_block N after_rows (transposed A) (transposed (columns N A C))
@@ -44,7 +44,7 @@ module _ (A : Matrix) (N q : ℕ) (xs : List ℤ) (many : length xs ≡ N * N) w
   scaled_is = map_block N (coefficient (log2 N) (scale q)) xs many
 
   pub rebuilt_is : passed after_rows (transposed A) N (passed after_columns (transposed A) N (map (coefficient (log2 N) (scale q)) xs)) ≡ rebuilt_by A N q xs
-  rebuilt_is = ap (λ ys. passed after_rows (transposed A) N (passed after_columns (transposed A) N ys)) scaled_is ∙ rebuilt_block A N q xs
+  rebuilt_is = ap (λ ys. passed after_rows (transposed A) N (passed after_columns (transposed A) N ys)) scaled_is ∙ rebuilt_passes A N q xs
 
   pub chosen_is : (divisor : ℕ) → divisor ≡ 64 * N * scale q → passed (λ z. nearest z divisor) A N (passed (λ z. z) A N xs) ≡ chosen_by A N q xs
   unfolding chosen_by
