@@ -1,15 +1,15 @@
 -- Where a byte stands first, one step at a time. Assumes nothing.
-use Rattle.std.proofs.Common.{◌≡◌, ℕ, suc, ◌+◌, ◌<◌, ◌≤◌, List, [], ◌∷◌, ◌++◌, length, get_or, take, drop, Some, None, Option, sym, refl, ap, ◌∙◌, inl, inr, eqb, arith}
+use Rattle.std.proofs.Common.{◌≡◌, ℕ, suc, ◌+◌, ◌<◌, ◌≤◌, List, [], ◌∷◌, ◌++◌, length, get_or, take, drop, Some, None, Option, sym, refl, ap, ◌∙◌, arith}
 use Rattle.std.specs.List.{AllByRecursion as All, position_or_len}
 use Rattle.std.specs.Prelude.{◌==◌, Bool, true, false, cond, nat_lt}
 use Rattle.std.specs.List.{position}
 use Rattle.std.specs.Option.{option_map, unwrap_or}
 use Rattle.std.proofs.lemmas.List.Recursion.{is_position_or_len}
-use Rattle.std.proofs.lemmas.List.Sums.{passes_at_first, prefix_len-le-length, position_or_len_is}
+use Rattle.std.proofs.lemmas.List.Sums.{passes_at_first, prefix_len-le-length}
 use Rattle.std.proofs.lemmas.Option.{cond_some}
 use Rattle.std.proofs.lemmas.List.{take-append-drop, drop_more, take_at, drop_at, length-append, append_assoc}
 use Rattle.std.proofs.lemmas.Bool.Decides.{nat_tests}
-use Rattle.std.proofs.lemmas.Bool.{ltb-true, eq-eqb, ne_eqb, lt-ltb, eqb-true, cases_lt, le-ltb}
+use Rattle.std.proofs.lemmas.Bool.{ltb-true, eq-eqb, ne_eqb, lt-ltb, eqb-true}
 use Rattle.film.specs.Fields.{place, cut_at}
 
 -- the place in the library's words
@@ -62,24 +62,3 @@ cut_append b xs ys h =
     let p = place_append b xs ys h in
     let l : length xs < length (xs ++ (b ∷ ys)) = omega (arith, length-append xs (b ∷ ys)) in
     rw (p, lt-ltb _ _ l, take_at xs (b ∷ ys) (length xs) refl, sym (append_assoc xs (b ∷ []) ys), drop_at (xs ++ (b ∷ [])) ys (length xs + 1) (length-append xs (b ∷ []))) refl
-
--- a search in steps: nothing found so far
-abbrev pub NoneBelow : ℕ → ℕ → List ℕ → Type 0
-NoneBelow b i xs = (k : ℕ) → k < i → eqb (get_or xs k 0) b ≡ false
-
-pub none_more : (b : ℕ) (xs : List ℕ) (i : ℕ) → (get_or xs i 0 ≡ b → ⊥) → NoneBelow b i xs → NoneBelow b (i + 1) xs
-none_more b xs i ne h k lt =
-    elim (cases_lt k i) [
-      | inl l ↦ h k l
-      | inr l ↦ let e : k ≡ i = omega arith in rw e (ne_eqb _ _ ne)
-    ]
-
-pub found_here : (b : ℕ) (xs : List ℕ) (i : ℕ) → i < length xs → get_or xs i 0 ≡ b → NoneBelow b i xs → Some i ≡ position (λ x. x == b) xs
-found_here b xs i l e h =
-    let p = position_or_len_is (λ x. x == b) xs i 0 (omega arith) h (λ _. eq-eqb _ _ e) in
-    rw (p, lt-ltb i (length xs) l) refl
-
-pub found_none : (b : ℕ) (xs : List ℕ) (i : ℕ) → length xs ≤ i → NoneBelow b i xs → None ≡ position (λ x. x == b) xs
-found_none b xs i l h =
-    let p = position_or_len_is (λ x. x == b) xs (length xs) 0 (omega arith) (λ k lt. h k (omega arith)) (λ lt. absurd (omega arith)) in
-    rw (p, le-ltb (length xs) (length xs) (omega arith)) refl

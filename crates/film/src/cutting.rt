@@ -9,17 +9,11 @@ pub(crate) const TAB: u8 = 9;
 
 pub(crate) const NEWLINE: u8 = 10;
 
-// Where the first `byte` stands. Every line and field is found by this loop, which takes seven instructions a byte where
-// the library's `position` takes nine.
+// Where the first `byte` stands.
 fn find(text: &[u8], byte: u8) -> Option<usize>
     ensures { result ≡ position (λ x. x == byte) text.now }
 {
-    for (i, x) in text.iter().enumerate() {
-        if *x == byte {
-            return Some(i);
-        }
-    }
-    None
+    text.iter().position(|b| *b == byte)
 }
 
 // What stands before the first `byte`, and what after it.
