@@ -33,9 +33,8 @@ pub fn write_setting(setting: Setting, out: &mut [u8], at: usize) -> usize
     ensures back { ReadsBack (of_setting setting) }
     ensures found { ReadsAt (of_setting setting) at result out.new }
 {
-    let fields = setting_fields(setting);
     let mut cursor = Cursor { out, at };
-    cursor.put_line(b'M', &fields);
+    cursor.put_line(b'M', &setting_fields(setting));
     cursor.at
 }
 

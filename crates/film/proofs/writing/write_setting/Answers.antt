@@ -1,5 +1,4 @@
 use Rattle.std.proofs.Common.{arith, rules}
-use Rattle.film.specs.Writing.{line_text, Puts}
 use Rattle.film.specs.Texts.{of_setting}
 use Rattle.film.proofs.Trips.{name_plain}
 use Rattle.film.proofs.Written.{IsWritten, is_written}
@@ -7,6 +6,5 @@ use Rattle.film.proofs.writing.write_setting.Goals as goal
 
 pub returns : goal.returns
 returns c =
-    let p : Puts (line_text 77 c.setting_fields-fields.result) _ c.put_line.new.self = c.put_line.ensures in
-    let w : IsWritten (of_setting c.args.setting) _ c.put_line.new.self = is_written (of_setting c.args.setting) p c.setting_fields-fields.ensures.text (name_plain c.args.setting.standard, omega arith, omega (arith, c.args.setting.tolerable)) (record { room = c.requires }) in
+    let w : IsWritten (of_setting c.args.setting) _ c.put_line.new.self = is_written (of_setting c.args.setting) c.put_line.ensures c.setting_fields.ensures.text (name_plain c.args.setting.standard, omega arith, omega (arith, c.args.setting.tolerable)) (record { room = c.requires }) in
     record { put = let p = w.put in search rules; back = w.back; found = let p = w.found in search rules }
