@@ -8,7 +8,8 @@
 ghost use Rattle.std.specs.Prelude.{◌≡◌, ◌+◌, ◌*◌, ◌≤◌, true, length, flat_map, sum_by};
 ghost use Rattle.transform.specs.Meaning.{shorts};
 ghost use Rattle.film.specs.Fields.{letter_m, letter_q};
-ghost use Rattle.film.specs.Texts.{square, split, levels, raw, text_of, of_setting, cell_text, Put};
+ghost use Rattle.film.specs.Standards.{name_of};
+ghost use Rattle.film.specs.Texts.{setting, square, split, levels, raw, text_of, of_setting, cell_text, Put};
 ghost use Rattle.film.specs.Writing.{tabbed_text, line_text, widest};
 ghost use Rattle.film.specs.Films.{ReadsBack, ReadsAt};
 
@@ -16,6 +17,7 @@ use crate::cursor::Cursor;
 use crate::cutting::NEWLINE;
 use crate::field::Field;
 use crate::setting::Setting;
+use crate::standard::Standard;
 
 // How long the line of a setting is.
 #[tactic(auto, using(crate::proofs::Writes::length_fields))]
@@ -23,7 +25,7 @@ pub fn setting_len(setting: Setting) -> usize
     ensures is { result ≡ length (text_of (of_setting setting)) }
     ensures few { result ≤ 30 }
 {
-    line_len(&setting_fields(setting))
+    line_len(&setting_fields(setting.standard, setting.step, setting.tolerance))
 }
 
 // Writes `M name step tolerance`.
@@ -33,8 +35,9 @@ pub fn write_setting(setting: Setting, out: &mut [u8], at: usize) -> usize
     ensures back { ReadsBack (of_setting setting) }
     ensures found { ReadsAt (of_setting setting) at result out.new }
 {
+    let fields = setting_fields(setting.standard, setting.step, setting.tolerance);
     let mut cursor = Cursor { out, at };
-    cursor.put_line(b'M', &setting_fields(setting));
+    cursor.put_line(b'M', &fields);
     cursor.at
 }
 
@@ -141,14 +144,14 @@ pub fn write_samples(samples: &[u8], out: &mut [u8], at: usize) -> usize
 
 // The fields of a setting's line.
 #[tactic(auto, unfolding(crate::specs::Texts::text_of))]
-fn setting_fields(setting: Setting) -> [Field; 3]
-    ensures text { text_of (of_setting setting) ≡ line_text letter_m result }
+fn setting_fields(standard: Standard, step: u16, tolerance: u16) -> [Field; 3]
+    ensures text { text_of (setting (name_of standard) step tolerance) ≡ line_text letter_m result }
     ensures few { sum_by widest result ≤ 28 }
 {
     [
-        Field::Name(setting.standard),
-        Field::Number(setting.step),
-        Field::Number(setting.tolerance),
+        Field::Name(standard),
+        Field::Number(step),
+        Field::Number(tolerance),
     ]
 }
 
